@@ -1,0 +1,1 @@
+//! What everything means: the definitions that the contracts of the other crates cite, in specs/.
