@@ -1,0 +1,86 @@
+//! Expanding a system to a Boolean file: one variable for each instance that the start reaches.
+mod body;
+mod draft;
+pub mod instance;
+
+use algebra::Algebra;
+use bits::BitReader;
+use body::write_variable;
+use draft::Draft;
+use faults::ExpandFault;
+use faults::ExpandFaultFromRead;
+use faults::Reason;
+use firstcome::FirstCome;
+use instance::Instance;
+use instance::InstanceEquals;
+use system::reading::Outline;
+use system::reading::read;
+
+/// The most instances.
+pub const INSTANCES: usize = 4096;
+
+/// The longest Boolean file, in bytes.
+pub const LONGEST_BOOLEAN: usize = 65535;
+
+/// How long the Boolean file is, and how many variables it has.
+#[derive(Clone, Copy, PartialEq, Eq, Debug)]
+pub struct Expansion {
+    pub len: usize,
+    pub variables: usize,
+}
+
+// The start as an instance.
+fn start_of(outline: &Outline, file: &[u8]) -> Option<Instance> {
+    let mut reader = BitReader { bytes: file, at: outline.start };
+    let equation = reader.next(5)?;
+    if equation >= 31 {
+        return None;
+    }
+    let mut values = [0u8; 15];
+    for k in 0..outline.headers[equation as usize].count {
+        let value = reader.next(8)?;
+        values[k as usize] = value as u8;
+    }
+    Some(Instance { equation: equation as u8, values })
+}
+
+// The variables of all instances that come, the start's first; none where more come than the list has places.
+fn write_variables<G: Algebra>(alg: &G, outline: &Outline, file: &[u8], list: &mut FirstCome<Instance>, draft: &mut Draft) -> Option<()> {
+    list.come(start_of(outline, file)?)?;
+    draft.put(0, 12);
+    for k in 0..INSTANCES {
+        let Some(instance) = list.get(k) else {
+            return Some(());
+        };
+        write_variable(alg, outline, file, instance, list, draft)?;
+    }
+    Some(())
+}
+
+// The Boolean file in a buffer of its own.
+fn draft_file<G: Algebra>(alg: &G, outline: &Outline, file: &[u8], work: &mut [Instance], buffer: &mut [u8]) -> Result<Expansion, ExpandFault> {
+    let places = work.len().min(INSTANCES);
+    let mut list = FirstCome::new(&mut work[0..places]);
+    let mut draft = Draft::new(buffer);
+    let Some(()) = write_variables(alg, outline, file, &mut list, &mut draft) else {
+        return Err(ExpandFault::Refused(Reason::TooManyInstances));
+    };
+    let variables = list.len();
+    let Some(len) = draft.close(variables) else {
+        return Err(ExpandFault::Refused(Reason::BooleanTooLong));
+    };
+    Ok(Expansion { len, variables })
+}
+
+/// Writes the Boolean file of the system in `file` to the front of `out`.
+pub fn expand<G: Algebra>(alg: &G, file: &[u8], work: &mut [Instance], out: &mut [u8]) -> Result<Expansion, ExpandFault> {
+    let outline = read(alg, file)?;
+    let mut buffer = [0u8; LONGEST_BOOLEAN];
+    let expansion = draft_file(alg, &outline, file, work, &mut buffer)?;
+    let len = expansion.len;
+    if len > out.len() || len > LONGEST_BOOLEAN {
+        return Err(ExpandFault::Refused(Reason::BooleanTooLong));
+    }
+    out[0..len].copy_from_slice(&buffer[0..len]);
+    Ok(expansion)
+}
