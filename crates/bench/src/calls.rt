@@ -3,7 +3,6 @@ use crate::Bench;
 use algebra::Algebra;
 use expansion::Expansion;
 use expansion::expand;
-use expansion::instance::Instance;
 use faults::ExpandFault;
 use faults::Halt;
 use faults::PassFault;
@@ -21,6 +20,7 @@ use passes::redundant::Redundant;
 use passes::redundant::RedundantPass;
 use passes::unreachable_equations::Unreachable;
 use passes::unreachable_equations::UnreachablePass;
+use system::instance::Instance;
 use system::reading::read;
 
 impl Bench {

@@ -1,13 +1,13 @@
 //! The body of an instance as tokens.
 use crate::draft::Draft;
-use crate::instance::Instance;
-use crate::instance::InstanceEquals;
 use algebra::Algebra;
 use firstcome::FirstCome;
 use system::DEPTH;
 use system::header::Header;
 use system::header::Quantifier;
 use system::header::Sign;
+use system::instance::Instance;
+use system::instance::InstanceEquals;
 use system::reading::Outline;
 use system::value::Environment;
 use system::value::known_value;
@@ -40,12 +40,12 @@ fn meant<G: Algebra>(alg: &G, env: &Environment, file: &[u8], occurrence: Occurr
 }
 
 // An any over the occurrences of a clause; the instances come as their tokens are written.
-fn write_clause<G: Algebra>(alg: &G, headers: &[Header], env: &Environment, file: &[u8], clause: ClauseAt, list: &mut FirstCome<Instance>, draft: &mut Draft) -> Option<usize> {
+fn write_clause<G: Algebra>(alg: &G, outline: &Outline, env: &Environment, file: &[u8], clause: ClauseAt, list: &mut FirstCome<Instance>, draft: &mut Draft) -> Option<usize> {
     draft.put(3, 3);
     draft.put(clause.count.saturating_sub(1) as u32, 8);
     let mut next = clause.next;
     for _k in 0..clause.count {
-        let occurrence = open_occurrence(alg, headers, file, next)?;
+        let occurrence = open_occurrence(alg, outline, file, next)?;
         let number = list.come(meant(alg, env, file, occurrence))?;
         draft.put(4, 3);
         draft.put(number.min(4095) as u32, 12);
@@ -55,25 +55,25 @@ fn write_clause<G: Algebra>(alg: &G, headers: &[Header], env: &Environment, file
 }
 
 // How many of the clauses have a guard that holds.
-fn count_holding<G: Algebra>(alg: &G, headers: &[Header], env: &Environment, file: &[u8], body: BodyAt) -> Option<u8> {
+fn count_holding<G: Algebra>(alg: &G, outline: &Outline, env: &Environment, file: &[u8], body: BodyAt) -> Option<u8> {
     let mut next = body.next;
     let mut count = 0u8;
     for _k in 0..body.count {
         if value_at(alg, env, file, next) == 1 && count < 255 {
             count += 1;
         }
-        next = end_of_clause(alg, headers, file, next)?;
+        next = end_of_clause(alg, outline, file, next)?;
     }
     Some(count)
 }
 
 // False if h fails, true if no guard holds, else all over the clauses whose guard holds.
-fn write_inside<G: Algebra>(alg: &G, headers: &[Header], env: &Environment, file: &[u8], body: BodyAt, list: &mut FirstCome<Instance>, draft: &mut Draft) -> Option<()> {
+fn write_inside<G: Algebra>(alg: &G, outline: &Outline, env: &Environment, file: &[u8], body: BodyAt, list: &mut FirstCome<Instance>, draft: &mut Draft) -> Option<()> {
     if value_at(alg, env, file, body.h) != 1 {
         draft.put(0, 3);
         return Some(());
     }
-    let holding = count_holding(alg, headers, env, file, body)?;
+    let holding = count_holding(alg, outline, env, file, body)?;
     if holding == 0 {
         draft.put(1, 3);
         return Some(());
@@ -84,18 +84,18 @@ fn write_inside<G: Algebra>(alg: &G, headers: &[Header], env: &Environment, file
     for _k in 0..body.count {
         if value_at(alg, env, file, next) == 1 {
             let clause = open_clause(alg, file, next)?;
-            next = write_clause(alg, headers, env, file, clause, list, draft)?;
+            next = write_clause(alg, outline, env, file, clause, list, draft)?;
         } else {
-            next = end_of_clause(alg, headers, file, next)?;
+            next = end_of_clause(alg, outline, file, next)?;
         }
     }
     Some(())
 }
 
 // All or any over the values of each quantified variable from the one numbered `level` on, ascending.
-fn write_quantified<G: Algebra>(alg: &G, headers: &[Header], header: Header, level: u8, env: Environment, file: &[u8], body: BodyAt, list: &mut FirstCome<Instance>, draft: &mut Draft) -> Option<()> {
+fn write_quantified<G: Algebra>(alg: &G, outline: &Outline, header: Header, level: u8, env: Environment, file: &[u8], body: BodyAt, list: &mut FirstCome<Instance>, draft: &mut Draft) -> Option<()> {
     if level >= header.number {
-        return write_inside(alg, headers, &env, file, body, list, draft);
+        return write_inside(alg, outline, &env, file, body, list, draft);
     }
     let quantified = header.quantified[level as usize];
     let token = match quantified.quantifier {
@@ -108,7 +108,7 @@ fn write_quantified<G: Algebra>(alg: &G, headers: &[Header], header: Header, lev
     for value in 0..size.min(256) {
         let mut inner = env;
         inner.variables[level as usize] = Some((value & 0xff) as u8);
-        write_quantified(alg, headers, header, level + 1, inner, file, body, list, draft)?;
+        write_quantified(alg, outline, header, level + 1, inner, file, body, list, draft)?;
     }
     Some(())
 }
@@ -138,6 +138,5 @@ pub(crate) fn write_variable<G: Algebra>(alg: &G, outline: &Outline, file: &[u8]
     draft.put(sign, 1);
     draft.put(instance.equation as u32, 5);
     let body = open_body(alg, file, outline.bodies[i])?;
-    let headers = &outline.headers[0..outline.count as usize];
-    write_quantified(alg, headers, header, 0, environment_of(instance, header.count), file, body, list, draft)
+    write_quantified(alg, outline, header, 0, environment_of(instance, header.count), file, body, list, draft)
 }

@@ -1,18 +1,16 @@
 //! Expanding a system to a Boolean file: one variable for each instance that the start reaches.
 mod body;
 mod draft;
-pub mod instance;
 
 use algebra::Algebra;
-use bits::BitReader;
 use body::write_variable;
 use draft::Draft;
 use faults::ExpandFault;
 use faults::ExpandFaultFromRead;
 use faults::Reason;
 use firstcome::FirstCome;
-use instance::Instance;
-use instance::InstanceEquals;
+use system::instance::Instance;
+use system::instance::InstanceEquals;
 use system::reading::Outline;
 use system::reading::read;
 
@@ -29,24 +27,9 @@ pub struct Expansion {
     pub variables: usize,
 }
 
-// The start as an instance.
-fn start_of(outline: &Outline, file: &[u8]) -> Option<Instance> {
-    let mut reader = BitReader { bytes: file, at: outline.start };
-    let equation = reader.next(5)?;
-    if equation >= 31 {
-        return None;
-    }
-    let mut values = [0u8; 15];
-    for k in 0..outline.headers[equation as usize].count {
-        let value = reader.next(8)?;
-        values[k as usize] = value as u8;
-    }
-    Some(Instance { equation: equation as u8, values })
-}
-
 // The variables of all instances that come, the start's first; none where more come than the list has places.
 fn write_variables<G: Algebra>(alg: &G, outline: &Outline, file: &[u8], list: &mut FirstCome<Instance>, draft: &mut Draft) -> Option<()> {
-    list.come(start_of(outline, file)?)?;
+    list.come(outline.start)?;
     draft.put(0, 12);
     for k in 0..INSTANCES {
         let Some(instance) = list.get(k) else {

@@ -3,7 +3,6 @@ use crate::Pass;
 use crate::plan::Plan;
 use crate::rewrite::write_planned;
 use algebra::Algebra;
-use bits::BitReader;
 use faults::PassFault;
 use faults::PassFaultFromRead;
 use system::DEPTH;
@@ -95,14 +94,13 @@ fn known_false<G: Algebra>(alg: &G, env: &Environment, file: &[u8], at: usize) -
 
 // Follows the occurrences of the clause at the place, unless its guard is known false, and tells the place behind it.
 fn follow_clause<G: Algebra>(alg: &G, outline: &Outline, env: &Environment, file: &[u8], at: usize, knowledge: &mut Knowledge) -> Option<usize> {
-    let headers = &outline.headers[0..outline.count as usize];
     if known_false(alg, env, file, at) {
-        return end_of_clause(alg, headers, file, at);
+        return end_of_clause(alg, outline, file, at);
     }
     let clause = open_clause(alg, file, at)?;
     let mut next = clause.next;
     for _k in 0..clause.count {
-        let occurrence = open_occurrence(alg, headers, file, next)?;
+        let occurrence = open_occurrence(alg, outline, file, next)?;
         learn(knowledge, occurrence.target, argument_values(alg, env, occurrence, file));
         next = occurrence.next;
     }
@@ -140,25 +138,19 @@ fn follow_changed<G: Algebra>(alg: &G, outline: &Outline, file: &[u8], knowledge
 }
 
 // The start is reached, with all its values known.
-fn learn_start(outline: &Outline, file: &[u8], knowledge: &mut Knowledge) -> Option<()> {
-    let mut reader = BitReader { bytes: file, at: outline.start };
-    let start = reader.next(5)?;
-    if start >= 31 {
-        return None;
-    }
+fn learn_start(outline: &Outline, knowledge: &mut Knowledge) {
+    let start = outline.start;
     let mut values = [None; 15];
-    for k in 0..outline.headers[start as usize].count {
-        let value = reader.next(8)?;
-        values[k as usize] = Some(value as u8);
+    for k in 0..outline.headers[start.equation as usize].count {
+        values[k as usize] = Some(start.values[k as usize]);
     }
-    learn(knowledge, start as u8, values);
-    Some(())
+    learn(knowledge, start.equation, values);
 }
 
 // The least knowledge that is stable: nothing that is brought is unknown to it.
 fn least_knowledge<G: Algebra>(alg: &G, outline: &Outline, file: &[u8]) -> Knowledge {
     let mut knowledge = Knowledge { equations: [Known { reached: false, values: [None; 15] }; 31], changed: [false; 31] };
-    let _ = learn_start(outline, file, &mut knowledge);
+    learn_start(outline, &mut knowledge);
     // Each equation is reached once, and each parameter becomes unknown once: at most 31 + 465 changes.
     for _round in 0..497 {
         let Some(true) = follow_changed(alg, outline, file, &mut knowledge) else {

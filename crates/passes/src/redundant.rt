@@ -50,7 +50,7 @@ fn marked_come<G: Algebra>(alg: &G, outline: &Outline, equation: u8, file: &[u8]
     let mut next = body.next;
     for _i in 0..body.count {
         occurring_come(alg, equation, count, file, next, list)?;
-        next = end_of_clause(alg, &outline.headers[0..outline.count as usize], file, next)?;
+        next = end_of_clause(alg, outline, file, next)?;
     }
     Some(())
 }
@@ -70,7 +70,6 @@ fn pointing_come<G: Algebra>(alg: &G, outline: &Outline, equation: u8, file: &[u
     if equation >= outline.count {
         return None;
     }
-    let headers = &outline.headers[0..outline.count as usize];
     let count = outline.headers[equation as usize].count;
     let body = open_body(alg, file, outline.bodies[equation as usize])?;
     let mut next = body.next;
@@ -78,7 +77,7 @@ fn pointing_come<G: Algebra>(alg: &G, outline: &Outline, equation: u8, file: &[u
         let clause = open_clause(alg, file, next)?;
         next = clause.next;
         for _k in 0..clause.count {
-            let occurrence = open_occurrence(alg, headers, file, next)?;
+            let occurrence = open_occurrence(alg, outline, file, next)?;
             feeding_come(alg, equation, count, occurrence, file, list)?;
             next = occurrence.next;
         }

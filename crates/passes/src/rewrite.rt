@@ -6,7 +6,6 @@ use crate::terms::Edit;
 use crate::terms::write_term;
 use crate::terms::write_value;
 use algebra::Algebra;
-use bits::BitReader;
 use bits::BitWriter;
 use bits::Full;
 use faults::PassFault;
@@ -56,7 +55,7 @@ fn write_header(writer: &mut BitWriter, header: Header, stays: &[bool; 15], bare
 
 // An occurrence without the arguments of parameters that do not stay, and the place behind it.
 fn write_occurrence<G: Algebra>(alg: &G, outline: &Outline, plan: &Plan, edit: &Edit, file: &[u8], at: usize, writer: &mut BitWriter) -> Result<usize, Full> {
-    let Some(occurrence) = open_occurrence(alg, &outline.headers[0..outline.count as usize], file, at) else {
+    let Some(occurrence) = open_occurrence(alg, outline, file, at) else {
         return Err(Full {});
     };
     writer.put(renumbered(plan, occurrence.target) as u32, 5)?;
@@ -102,7 +101,7 @@ fn count_clauses<G: Algebra>(alg: &G, outline: &Outline, edit: &Edit, file: &[u8
         if !clause_goes(alg, edit, file, next) && stay < 255 {
             stay += 1;
         }
-        next = end_of_clause(alg, &outline.headers[0..outline.count as usize], file, next)?;
+        next = end_of_clause(alg, outline, file, next)?;
     }
     Some(stay)
 }
@@ -112,7 +111,7 @@ fn write_clauses<G: Algebra>(alg: &G, outline: &Outline, plan: &Plan, edit: &Edi
     let mut next = at;
     for _k in 0..count {
         if clause_goes(alg, edit, file, next) {
-            let Some(end) = end_of_clause(alg, &outline.headers[0..outline.count as usize], file, next) else {
+            let Some(end) = end_of_clause(alg, outline, file, next) else {
                 return Err(Full {});
             };
             next = end;
@@ -146,22 +145,13 @@ fn write_body<G: Algebra>(alg: &G, outline: &Outline, plan: &Plan, file: &[u8], 
 }
 
 // The start, without the values of parameters that do not stay.
-fn write_start(outline: &Outline, plan: &Plan, file: &[u8], writer: &mut BitWriter) -> Result<(), Full> {
-    let mut reader = BitReader { bytes: file, at: outline.start };
-    let Some(start) = reader.next(5) else {
-        return Err(Full {});
-    };
-    if start >= 31 {
-        return Err(Full {});
-    }
-    writer.put(renumbered(plan, start as u8) as u32, 5)?;
-    let stays = plan.equations[start as usize].stays;
-    for k in 0..outline.headers[start as usize].count {
-        let Some(value) = reader.next(8) else {
-            return Err(Full {});
-        };
+fn write_start(outline: &Outline, plan: &Plan, writer: &mut BitWriter) -> Result<(), Full> {
+    let start = outline.start;
+    writer.put(renumbered(plan, start.equation) as u32, 5)?;
+    let stays = plan.equations[start.equation as usize].stays;
+    for k in 0..outline.headers[start.equation as usize].count {
         if stays[k as usize] {
-            writer.put(value, 8)?;
+            writer.put(start.values[k as usize] as u32, 8)?;
         }
     }
     Ok(())
@@ -181,7 +171,7 @@ fn write_system<G: Algebra>(alg: &G, outline: &Outline, plan: &Plan, file: &[u8]
             write_body(alg, outline, plan, file, i, writer)?;
         }
     }
-    write_start(outline, plan, file, writer)
+    write_start(outline, plan, writer)
 }
 
 // The file of the changed system in a buffer of its own, and its length.

@@ -3,7 +3,6 @@ use crate::Pass;
 use crate::plan::Plan;
 use crate::rewrite::write_planned;
 use algebra::Algebra;
-use bits::BitReader;
 use faults::PassFault;
 use faults::PassFaultFromRead;
 use firstcome::FirstCome;
@@ -25,14 +24,13 @@ pub struct EquationNumber {
 
 // The targets of the occurrences of the body at the place come.
 fn targets_come<G: Algebra>(alg: &G, outline: &Outline, file: &[u8], at: usize, list: &mut FirstCome<EquationNumber>) -> Option<()> {
-    let headers = &outline.headers[0..outline.count as usize];
     let body = open_body(alg, file, at)?;
     let mut next = body.next;
     for _i in 0..body.count {
         let clause = open_clause(alg, file, next)?;
         next = clause.next;
         for _k in 0..clause.count {
-            let occurrence = open_occurrence(alg, headers, file, next)?;
+            let occurrence = open_occurrence(alg, outline, file, next)?;
             list.come(EquationNumber { index: occurrence.target })?;
             next = occurrence.next;
         }
@@ -42,9 +40,7 @@ fn targets_come<G: Algebra>(alg: &G, outline: &Outline, file: &[u8], at: usize, 
 
 // The equations that are reached come, the start's first.
 fn reached_come<G: Algebra>(alg: &G, outline: &Outline, file: &[u8], list: &mut FirstCome<EquationNumber>) -> Option<()> {
-    let mut reader = BitReader { bytes: file, at: outline.start };
-    let start = reader.next(5)?;
-    list.come(EquationNumber { index: start as u8 })?;
+    list.come(EquationNumber { index: outline.start.equation })?;
     for k in 0..31usize {
         if let Some(equation) = list.get(k) {
             if equation.index < 31 {

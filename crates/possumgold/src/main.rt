@@ -5,13 +5,13 @@ use algebra::Table;
 use algebra::TableAlgebra;
 use bench::Bench;
 use boolean::solving::solve;
-use expansion::instance::Instance;
 use faults::Fault;
 use faults::Layer;
 use std::alloc::AllocError;
 use std::alloc::Global;
 use std::io;
 use std::io::Read;
+use system::instance::Instance;
 
 // The name of a layer as it is printed.
 fn layer_name(layer: Layer) -> &'static str {

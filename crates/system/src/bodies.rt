@@ -106,7 +106,14 @@ pub(crate) fn check_bodies<G: Algebra>(alg: &G, headers: &[Header], bytes: &[u8]
     Ok(Bodies { places, next })
 }
 
-fn check_value_of<G: Algebra>(alg: &G, bytes: &[u8], at: usize, sort: u8) -> Result<usize, ReadFault> {
+/// A value, and the place behind it.
+#[derive(Clone, Copy)]
+pub struct ValueAt {
+    pub value: u8,
+    pub next: usize,
+}
+
+fn read_value<G: Algebra>(alg: &G, bytes: &[u8], at: usize, sort: u8) -> Result<ValueAt, ReadFault> {
     let mut reader = BitReader { bytes, at };
     let Some(value) = reader.next(8) else {
         return Err(ReadFault { reason: Reason::EndsInField, place: at });
@@ -117,14 +124,24 @@ fn check_value_of<G: Algebra>(alg: &G, bytes: &[u8], at: usize, sort: u8) -> Res
     if value >= size as u32 {
         return Err(ReadFault { reason: Reason::ValueTooLarge, place: at });
     }
-    Ok(reader.at)
+    Ok(ValueAt { value: value as u8, next: reader.at })
 }
 
-pub(crate) fn check_values<G: Algebra>(alg: &G, bytes: &[u8], at: usize, sorts: &[u8]) -> Result<usize, ReadFault> {
+/// One value of each sort, and the place behind them.
+#[derive(Clone, Copy)]
+pub struct Values {
+    pub values: [u8; 15],
+    pub next: usize,
+}
+
+pub(crate) fn read_values<G: Algebra>(alg: &G, bytes: &[u8], at: usize, sorts: &[u8]) -> Result<Values, ReadFault> {
+    let mut values = [0u8; 15];
     let mut next = at;
-    for sort in sorts {
-        next = check_value_of(alg, bytes, next, *sort)?;
+    for i in 0..sorts.len() {
+        let x = read_value(alg, bytes, next, sorts[i])?;
+        values[i] = x.value;
+        next = x.next;
     }
-    Ok(next)
+    Ok(Values { values, next })
 }
 

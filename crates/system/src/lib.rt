@@ -2,6 +2,7 @@
 mod bodies;
 pub mod header;
 mod headers;
+pub mod instance;
 pub mod occur;
 pub mod reading;
 mod term;

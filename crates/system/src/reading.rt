@@ -1,25 +1,27 @@
 //! Reading a system file: every field is checked in the file's order, so the fault found first has the earliest place.
-ghost use Prim.Native.Nat.{_≤_};
+ghost use Prim.Native.Nat.{_<_, _≤_};
 use crate::LONGEST;
 use crate::bodies::check_bodies;
-use crate::bodies::check_values;
 use crate::bodies::read_target;
+use crate::bodies::read_values;
 use crate::header::Header;
 use crate::headers::read_headers;
+use crate::instance::Instance;
 use algebra::Algebra;
 use bits::BitReader;
 use faults::ReadFault;
 use faults::Reason;
 
-/// Where the parts of an accepted file stand: the headers, the place of each body, and the place of the start.
+/// What an accepted file says outside its bodies: the headers, the place of each body, the start, and the place behind it.
 #[derive(Clone, Copy)]
 pub struct Outline {
     pub count: u8,
     pub headers: [Header; 31],
     pub bodies: [usize; 31],
-    pub start: usize,
+    pub start: Instance,
     pub end: usize,
     ghost few: { count ≤ 31 },
+    ghost present: { start .equation < count },
 }
 
 fn read_rest<G: Algebra>(alg: &G, count: u8, headers: [Header; 31], bytes: &[u8], at: usize) -> Result<Outline, ReadFault> {
@@ -27,8 +29,9 @@ fn read_rest<G: Algebra>(alg: &G, count: u8, headers: [Header; 31], bytes: &[u8]
     let bodies = check_bodies(alg, present, bytes, at)?;
     let start = read_target(present, bytes, bodies.next)?;
     let sorts = start.header.sorts;
-    let end = check_values(alg, bytes, start.next, &sorts[0..start.header.count as usize])?;
-    Ok(Outline { count, headers, bodies: bodies.places, start: bodies.next, end })
+    let values = read_values(alg, bytes, start.next, &sorts[0..start.header.count as usize])?;
+    let instance = Instance { equation: start.index, values: values.values };
+    Ok(Outline { count, headers, bodies: bodies.places, start: instance, end: values.next })
 }
 
 fn read_system<G: Algebra>(alg: &G, bytes: &[u8]) -> Result<Outline, ReadFault> {

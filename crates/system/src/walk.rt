@@ -1,6 +1,7 @@
 //! Walking an accepted file: bodies, clauses and occurrences, with their terms as places.
+ghost use Prim.Native.Nat.{_<_, _≤_};
 use crate::DEPTH;
-use crate::header::Header;
+use crate::reading::Outline;
 use crate::view::View;
 use crate::view::end_of_term;
 use algebra::Algebra;
@@ -12,6 +13,7 @@ pub struct BodyAt {
     pub h: usize,
     pub count: u8,
     pub next: usize,
+    ghost few: { count ≤ 15 },
 }
 
 /// A clause's opening: the place of its guard, its occurrence count, and the place of the first occurrence.
@@ -20,6 +22,8 @@ pub struct ClauseAt {
     pub guard: usize,
     pub count: u8,
     pub next: usize,
+    ghost some: { 1 ≤ count },
+    ghost few: { count ≤ 8 },
 }
 
 /// An occurrence: its target, the places of its arguments, and the place behind it.
@@ -29,6 +33,8 @@ pub struct OccurrenceAt {
     pub count: u8,
     pub arguments: [usize; 15],
     pub next: usize,
+    ghost present: { target < 31 },
+    ghost few: { count ≤ 15 },
 }
 
 /// The opening of the body at the place.
@@ -48,13 +54,13 @@ pub fn open_clause<G: Algebra>(alg: &G, bytes: &[u8], at: usize) -> Option<Claus
 }
 
 /// The occurrence at the place.
-pub fn open_occurrence<G: Algebra>(alg: &G, headers: &[Header], bytes: &[u8], at: usize) -> Option<OccurrenceAt> {
+pub fn open_occurrence<G: Algebra>(alg: &G, outline: &Outline, bytes: &[u8], at: usize) -> Option<OccurrenceAt> {
     let mut reader = BitReader { bytes, at };
     let target = reader.next(5)?;
-    if target as usize >= headers.len() {
+    if target >= outline.count as u32 {
         return None;
     }
-    let count = headers[target as usize].count;
+    let count = outline.headers[target as usize].count;
     let mut arguments = [0usize; 15];
     let mut next = reader.at;
     for k in 0..count {
@@ -65,11 +71,11 @@ pub fn open_occurrence<G: Algebra>(alg: &G, headers: &[Header], bytes: &[u8], at
 }
 
 /// The place behind the clause at the place.
-pub fn end_of_clause<G: Algebra>(alg: &G, headers: &[Header], bytes: &[u8], at: usize) -> Option<usize> {
+pub fn end_of_clause<G: Algebra>(alg: &G, outline: &Outline, bytes: &[u8], at: usize) -> Option<usize> {
     let clause = open_clause(alg, bytes, at)?;
     let mut next = clause.next;
     for _k in 0..clause.count {
-        next = open_occurrence(alg, headers, bytes, next)?.next;
+        next = open_occurrence(alg, outline, bytes, next)?.next;
     }
     Some(next)
 }
