@@ -1,5 +1,6 @@
 //! Reading a Boolean file.
-ghost use Prim.Native.Nat.{_≤_};
+ghost use Prim.Native.Nat.{_<_, _≤_};
+ghost use lib.ListN.{length};
 use crate::token::BODY_DEPTH;
 use crate::token::check_body;
 use bits::BitReader;
@@ -14,13 +15,19 @@ pub const LONGEST_BOOLEAN: usize = 65535;
 /// The most variables.
 pub const VARIABLES: usize = 4096;
 
-/// The variables of an accepted Boolean file: their ranks, the places of their bodies, and the sign of each rank that one has.
+/// For each variable its rank and the place of its body, and the sign of each rank that a variable has.
+#[derive(Clone, Copy)]
+pub struct Entries {
+    pub ranks: [u8; 4096],
+    pub bodies: [usize; 4096],
+    pub signs: [Option<Sign>; 32],
+}
+
+/// The variables of an accepted Boolean file.
 #[derive(Clone, Copy)]
 pub struct Variables {
     pub count: usize,
-    pub ranks: [u8; 4096],
-    pub bodies: [u32; 4096],
-    pub signs: [Option<Sign>; 32],
+    pub entries: Entries,
     ghost few: { count ≤ 4096 },
 }
 
@@ -36,8 +43,10 @@ fn suits(known: Option<Sign>, sign: Sign) -> bool {
     }
 }
 
-// Reads the variable numbered i at the place, and tells the place behind it.
-fn read_variable(bytes: &[u8], at: usize, i: usize, variables: &mut Variables) -> Result<usize, SolveFault> {
+// Reads the variable numbered i of `count` at the place, and tells the place behind it.
+fn read_variable(bytes: &[u8], at: usize, i: usize, count: usize, entries: &mut Entries) -> Result<usize, SolveFault>
+    requires { ⌜ i < 4096 ⌝ }
+{
     let mut reader = BitReader { bytes, at };
     let Some(bit) = reader.next(1) else {
         return Err(SolveFault { reason: Reason::EndsInField, place: at });
@@ -47,17 +56,19 @@ fn read_variable(bytes: &[u8], at: usize, i: usize, variables: &mut Variables) -
         return Err(SolveFault { reason: Reason::EndsInField, place });
     };
     let sign = sign_of(bit);
-    if !suits(variables.signs[rank as usize], sign) {
+    if !suits(entries.signs[rank as usize], sign) {
         return Err(SolveFault { reason: Reason::RankOfBothSigns, place });
     }
-    variables.signs[rank as usize] = Some(sign);
-    variables.ranks[i] = rank as u8;
-    variables.bodies[i] = reader.at as u32;
-    check_body(bytes, reader.at, variables.count, BODY_DEPTH)
+    entries.signs[rank as usize] = Some(sign);
+    entries.ranks[i] = rank as u8;
+    entries.bodies[i] = reader.at;
+    check_body(bytes, reader.at, count, BODY_DEPTH)
 }
 
 // Only zero bits follow the content, and no further byte.
-fn check_ending(bytes: &[u8], at: usize) -> Result<(), SolveFault> {
+fn check_ending(bytes: &[u8], at: usize) -> Result<(), SolveFault>
+    requires { ⌜ length (now bytes) ≤ 65535 ⌝ }
+{
     let total = 8 * bytes.len();
     if at >= total {
         return Ok(());
@@ -82,11 +93,12 @@ pub fn read_boolean(file: &[u8]) -> Result<Variables, SolveFault> {
     let Some(less) = reader.next(12) else {
         return Err(SolveFault { reason: Reason::EndsInField, place: 0 });
     };
-    let mut variables = Variables { count: less as usize + 1, ranks: [0; 4096], bodies: [0; 4096], signs: [None; 32] };
+    let count = less as usize + 1;
+    let mut entries = Entries { ranks: [0; 4096], bodies: [0; 4096], signs: [None; 32] };
     let mut next = reader.at;
-    for i in 0..variables.count {
-        next = read_variable(file, next, i, &mut variables)?;
+    for i in 0..count {
+        next = read_variable(file, next, i, count, &mut entries)?;
     }
     check_ending(file, next)?;
-    Ok(variables)
+    Ok(Variables { count, entries })
 }

@@ -52,7 +52,7 @@ fn begin(variables: &Variables, block: Block, truths: &mut [bool; VARIABLES]) {
         Sign::Greatest => true,
     };
     for v in 0..variables.count {
-        if is_in(block, variables.ranks[v]) {
+        if is_in(block, variables.entries.ranks[v]) {
             truths[v] = truth;
         }
     }
@@ -62,8 +62,8 @@ fn begin(variables: &Variables, block: Block, truths: &mut [bool; VARIABLES]) {
 fn sweep(file: &[u8], variables: &Variables, block: Block, truths: &mut [bool; VARIABLES]) -> bool {
     let mut changed = false;
     for v in (0..variables.count).rev() {
-        if is_in(block, variables.ranks[v]) {
-            if let Some(said) = body_truth(file, variables.bodies[v] as usize, &truths[0..variables.count], BODY_DEPTH) {
+        if is_in(block, variables.entries.ranks[v]) {
+            if let Some(said) = body_truth(file, variables.entries.bodies[v], &truths[0..variables.count], BODY_DEPTH) {
                 if said.truth != truths[v] {
                     truths[v] = said.truth;
                     changed = true;
@@ -97,7 +97,7 @@ pub fn solve(file: &[u8], truths: &mut [u8]) -> Result<usize, SolveFault> {
         return Err(SolveFault { reason: Reason::TooFewTruths, place: 0 });
     }
     let mut solution = [false; VARIABLES];
-    solve_from(file, &variables, &blocks_of(&variables.signs), 0, &mut solution);
+    solve_from(file, &variables, &blocks_of(&variables.entries.signs), 0, &mut solution);
     for v in 0..variables.count {
         truths[v] = solution[v] as u8;
     }
