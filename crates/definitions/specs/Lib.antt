@@ -4,6 +4,7 @@ pub mod Alg
 pub mod Algebras
 pub mod Solution
 pub mod Order
+pub mod Nested
 pub mod Systems
 pub mod Written
 pub mod Reading
