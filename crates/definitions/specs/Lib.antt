@@ -18,3 +18,9 @@ pub mod Passes
 pub mod Settle
 pub mod Boolean
 pub mod Tables
+pub mod FileFits
+pub mod Reach
+pub mod Rules
+pub mod Calls
+pub mod Past
+pub mod Histories
