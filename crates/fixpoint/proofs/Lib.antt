@@ -6,3 +6,4 @@ pub mod Couple
 pub mod Merge
 pub mod Meaning
 pub mod Pull
+pub mod Truths
