@@ -1,4 +1,4 @@
--- Which terms and systems fit an algebra.
+-- Which terms and systems fit an algebra: their names exist, terms have the sorts that their places need and keep the depth limit, and counts fit their fields.
 use mathlib.Core.Path.{_≡_}
 use mathlib.Core.List.{List, [], _∷_, map}
 use Prim.Native.Nat.{ℕ, zero, suc, _<_, _≤_}
@@ -8,7 +8,7 @@ use Rattle.std.specs.declared.option.Option.the-variants.{None, Some}
 use Rattle.definitions.specs.Lists.{at}
 use Rattle.definitions.specs.Alg.{Alg}
 use Rattle.definitions.specs.Systems.{Kind, parameter, variable, value, operation, not, and, or, equal, Term, Terms, node, none, more, Quantified, Occurrence, Clause, Equation, System}
-use Rattle.definitions.specs.ReadSystem.{Scope, Header, scope}
+use Rattle.definitions.specs.ReadSystem.{Scope, Header, scope, greatestDepth}
 
 -- the term has the sort s and depth at most d
 mutual
@@ -55,7 +55,7 @@ abbrev pub TermsFit : Alg → Scope → List ℕ → List Term → Type 0
 TermsFit a c [] [] = Unit {0}
 TermsFit a c [] (t ∷ ts) = ⊥
 TermsFit a c (s ∷ ss) [] = ⊥
-TermsFit a c (s ∷ ss) (t ∷ ts) = Fits a c 32 s t × TermsFit a c ss ts
+TermsFit a c (s ∷ ss) (t ∷ ts) = Fits a c greatestDepth s t × TermsFit a c ss ts
 
 abbrev pub ValuesFit : Alg → List ℕ → List ℕ → Type 0
 ValuesFit a [] [] = Unit {0}
@@ -70,13 +70,13 @@ pub record OccurrenceFits (a : Alg) (hs : List Header) (c : Scope) (o : Occurren
   pub fit : TermsFit a c (header .sorts) (o .arguments)
 
 pub record ClauseFits (a : Alg) (hs : List Header) (c : Scope) (k : Clause) : Type 0 where
-  pub guard : Fits a c 32 0 (k .guard)
+  pub guard : Fits a c greatestDepth 0 (k .guard)
   pub some : 1 ≤ length (k .occurrences)
   pub few : length (k .occurrences) ≤ 8
   pub fit : Every (OccurrenceFits a hs c) (k .occurrences)
 
 pub record BodyFits (a : Alg) (hs : List Header) (e : Equation) : Type 0 where
-  pub h : Fits a (scope (headerOf e)) 32 0 (e .h)
+  pub h : Fits a (scope (headerOf e)) greatestDepth 0 (e .h)
   pub few : length (e .clauses) < 16
   pub fit : Every (ClauseFits a hs (scope (headerOf e))) (e .clauses)
 

@@ -4,6 +4,7 @@ pub mod Alg
 pub mod Algebras
 pub mod Solution
 pub mod Order
+pub mod Nested
 pub mod Systems
 pub mod Written
 pub mod Reading
@@ -17,3 +18,9 @@ pub mod Passes
 pub mod Settle
 pub mod Boolean
 pub mod Tables
+pub mod FileFits
+pub mod Reach
+pub mod Rules
+pub mod Calls
+pub mod Past
+pub mod Histories

@@ -1,11 +1,12 @@
--- The table algebra, from a table file.
-use mathlib.Core.List.{List, [], _∷_, map}
+-- The table algebra, and the table file: reading and writing.
+use mathlib.Core.List.{List, [], _∷_, _++_, map}
 use mathlib.Core.Bool.{Bool, true, false}
-use Prim.Native.Nat.{ℕ, zero, suc, _+_, _*_}
+use Prim.Native.Nat.{ℕ, zero, suc, _+_, _-_, _*_}
 use lib.Dec.{eqb, ltb}
 use lib.ListN.{length, getD}
 use Rattle.faults.specs.declared.Reason.the-variants.{NoSuchSort, ValueTooLarge, TruthSortSize}
-use Rattle.definitions.specs.Lists.{at, bind, product}
+use Rattle.definitions.specs.Lists.{at, bind, flat, product}
+use Rattle.definitions.specs.Bits.{bits, packed}
 use Rattle.definitions.specs.Alg.{Alg, Op, sized, algebra}
 use Rattle.definitions.specs.Reading.{Reading, Reader, _>>=_, _>>_, give, here, must, take, takeFor, below, repeated, file}
 
@@ -65,3 +66,15 @@ readTable = do
 
 abbrev pub tableReading : List ℕ → Reading Table
 tableReading f = file 16384 readTable f
+
+-- writing
+abbrev pub opBits : TableOp → List ℕ
+opBits q = bits 2 (length (q .args)) ++ (flat (map (bits 4) (q .args)) ++ (bits 4 (q .res) ++ flat (map (bits 8) (q .values))))
+
+abbrev pub tableBits : Table → List ℕ
+tableBits t =
+    bits 4 (length (t .sizes) - 1) ++ (flat (map (λ n. bits 8 (n - 1)) (t .sizes)) ++
+    (bits 6 (length (t .ops)) ++ flat (map opBits (t .ops))))
+
+abbrev pub tableWritten : Table → List ℕ
+tableWritten t = packed (tableBits t)

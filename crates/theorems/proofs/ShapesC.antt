@@ -1,0 +1,59 @@
+-- What fits has the right shape.
+use Prim.Native.Nat.{ℕ, zero, suc, _+_}
+use mathlib.Core.Path.{_≡_, refl, sym, _∙_, ap, ap₂, subst}
+use mathlib.Core.List.{List, [], _∷_, map}
+use lib.ListN.{length}
+use Rattle.std.specs.declared.option.Option.{Option}
+use Rattle.std.specs.declared.option.Option.the-variants.{None, Some}
+use Rattle.definitions.specs.Lists.{at}
+use Rattle.definitions.specs.Alg.{Alg}
+use Rattle.definitions.specs.Systems.{Term, Occurrence, Clause, Equation, System}
+use Rattle.definitions.specs.ReadSystem.{Scope, Header, scope}
+use Rattle.definitions.specs.Fits.{Every, headerOf, TermsFit, ValuesFit, OccurrenceFits, ClauseFits, BodyFits, SystemFits}
+use Rattle.theorems.specs.KnowledgeLaws.{arities, Shaped}
+use Rattle.theorems.proofs.Monotone.{every-map}
+use Rattle.theorems.proofs.RangesC.{some-same, none-some}
+
+pub every-at : {A : Type 0} (P : A → Type 0) (xs : List A) (n : ℕ) (x : A) → at xs n ≡ Some x → Every P xs → P x
+every-at P [] n x e h = absurd (none-some x e)
+every-at P (y ∷ xs) zero x e h = subst P (some-same y x e) (h .0)
+every-at P (y ∷ xs) (suc n) x e h = every-at P xs n x e (h .1)
+
+pub every-two : {A : Type 0} {P Q R : A → Type 0} (xs : List A) → ((x : A) → P x → Q x → R x) → Every P xs → Every Q xs → Every R xs
+every-two [] f h k = tt
+every-two (x ∷ xs) f h k = (f x (h .0) (k .0), every-two xs f (h .1) (k .1))
+
+pub at-map : {A B : Type 0} (f : A → B) (xs : List A) (n : ℕ) (y : B) → at (map f xs) n ≡ Some y → (x : A) × (at xs n ≡ Some x) × (f x ≡ y)
+at-map f [] n y e = absurd (none-some y e)
+at-map f (x ∷ xs) zero y e = (x, refl, some-same (f x) y e)
+at-map f (x ∷ xs) (suc n) y e = at-map f xs n y e
+
+pub at-mapped : {A B : Type 0} (f : A → B) (xs : List A) (n : ℕ) (x : A) → at xs n ≡ Some x → at (map f xs) n ≡ Some (f x)
+at-mapped f [] n x e = absurd (none-some x e)
+at-mapped f (y ∷ xs) zero x e = ap (λ z. Some (f z)) (some-same y x e)
+at-mapped f (y ∷ xs) (suc n) x e = at-mapped f xs n x e
+
+pub values-long : (a : Alg) (ss vs : List ℕ) → ValuesFit a ss vs → length ss ≡ length vs
+values-long a [] [] h = refl
+values-long a [] (v ∷ vs) h = absurd h
+values-long a (s ∷ ss) [] h = absurd h
+values-long a (s ∷ ss) (v ∷ vs) h = ap suc (values-long a ss vs (h .1))
+
+pub terms-long : (a : Alg) (c : Scope) (ss : List ℕ) (ts : List Term) → TermsFit a c ss ts → length ss ≡ length ts
+terms-long a c [] [] h = refl
+terms-long a c [] (t ∷ ts) h = absurd h
+terms-long a c (s ∷ ss) [] h = absurd h
+terms-long a c (s ∷ ss) (t ∷ ts) h = ap suc (terms-long a c ss ts (h .1))
+
+arity-of : (es : List Equation) (n : ℕ) (h : Header) → at (map headerOf es) n ≡ Some h → at (arities es) n ≡ Some (length (h .sorts))
+arity-of es n h e =
+    let (q, eq, eh) = at-map headerOf es n h e in
+    at-mapped (λ (e : Equation). length (e .sorts)) es n q eq ∙ ap (λ (z : Header). Some (length (z .sorts))) eh
+
+pub fits-shaped : (a : Alg) (s : System) → SystemFits a s → Shaped s
+fits-shaped a s fit = (
+  arity-of (s .equations) (s .start) (fit .header) (fit .there) ∙ ap Some (values-long a (fit .header .sorts) (s .values) (fit .values)),
+  every-map (s .equations) (λ e b. every-map (e .clauses) (λ c k. every-map (c .occurrences) (λ o f.
+      arity-of (s .equations) (o .target) (f .header) (f .there) ∙
+      ap Some (terms-long a (scope (headerOf e)) (f .header .sorts) (o .arguments) (f .fit))) (k .fit)) (b .fit)) (fit .bodies),
+)

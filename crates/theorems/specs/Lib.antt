@@ -1,0 +1,11 @@
+pub mod Evaluation
+pub mod SolutionLaws
+pub mod FileLaws
+pub mod AlgebraLaws
+pub mod KnowledgeLaws
+pub mod PassLaws
+pub mod SettleLaws
+pub mod ExpandLaws
+pub mod CallLaws
+pub mod Sample
+pub mod Examples
