@@ -1,4 +1,11 @@
 //! Reading the headers of a system file.
+ghost use mathlib.Core.Path.{_≡_};
+ghost use Prim.Native.Nat.{ℕ, _≤_};
+ghost use lib.ListN.{length};
+ghost use Rattle.definitions.specs.Reading.{repeated};
+ghost use Rattle.definitions.specs.ReadSystem.{signOf, quantifierOf, readSort, readQuantified, readHeader};
+ghost use Rattle.system.specs.Steps.{told};
+ghost use Rattle.system.specs.Files.{keptSign, keptQuantifier, toldSorts, toldQuantified, toldQuantifieds, toldHeader, toldHeaders};
 use crate::header::Header;
 use crate::header::Quantified;
 use crate::header::Quantifier;
@@ -9,23 +16,47 @@ use bits::BitReader;
 use faults::ReadFault;
 use faults::Reason;
 
-fn sign_of(bit: u32) -> Sign {
-    if bit == 0 { Sign::Least } else { Sign::Greatest }
+fn sign_of(bit: u32) -> Sign
+    ensures { λ r. ⌜ keptSign r ≡ signOf bit ⌝ }
+{
+    if bit == 0 {
+        Sign::Least
+    } else {
+        Sign::Greatest
+    }
 }
 
-fn quantifier_of(bit: u32) -> Quantifier {
-    if bit == 0 { Quantifier::Exists } else { Quantifier::ForAll }
+fn quantifier_of(bit: u32) -> Quantifier
+    ensures { λ r. ⌜ keptQuantifier r ≡ quantifierOf bit ⌝ }
+{
+    if bit == 0 {
+        Quantifier::Exists
+    } else {
+        Quantifier::ForAll
+    }
 }
 
-fn read_sort<G: Algebra>(alg: &G, bytes: &[u8], at: usize) -> Result<Checked, ReadFault> {
+fn read_sort<G: Algebra>(alg: &G, bytes: &[u8], at: usize) -> Result<Checked, ReadFault>
+    requires { ⌜ length (now bytes) ≤ 65536 ⌝ }
+    ensures { λ r. ⌜ told r ≡ readSort (meaning (now (alg .entry))) (now (bytes .entry)) at ⌝ }
+{
     let mut reader = BitReader { bytes, at };
     let Some(sort) = reader.next(4) else {
-        return Err(ReadFault { reason: Reason::EndsInField, place: at });
+        return Err(ReadFault {
+            reason: Reason::EndsInField,
+            place: at,
+        });
     };
     let Some(_) = alg.size(sort as u8) else {
-        return Err(ReadFault { reason: Reason::NoSuchSort, place: at });
+        return Err(ReadFault {
+            reason: Reason::NoSuchSort,
+            place: at,
+        });
     };
-    Ok(Checked { sort: sort as u8, next: reader.at })
+    Ok(Checked {
+        sort: sort as u8,
+        next: reader.at,
+    })
 }
 
 #[derive(Clone, Copy)]
@@ -34,7 +65,11 @@ pub struct Sorts {
     pub next: usize,
 }
 
-fn read_sorts<G: Algebra>(alg: &G, bytes: &[u8], at: usize, count: u8) -> Result<Sorts, ReadFault> {
+fn read_sorts<G: Algebra>(alg: &G, bytes: &[u8], at: usize, count: u8) -> Result<Sorts, ReadFault>
+    requires small { ⌜ length (now bytes) ≤ 65536 ⌝ }
+    requires few { ⌜ count ≤ 15 ⌝ }
+    ensures { λ r. ⌜ toldSorts count r ≡ repeated (readSort (meaning (now (alg .entry)))) count (now (bytes .entry)) at ⌝ }
+{
     let mut sorts = [0u8; 15];
     let mut next = at;
     for i in 0..count {
@@ -51,13 +86,25 @@ pub struct QuantifiedAt {
     pub next: usize,
 }
 
-fn read_quantified<G: Algebra>(alg: &G, bytes: &[u8], at: usize) -> Result<QuantifiedAt, ReadFault> {
+fn read_quantified<G: Algebra>(alg: &G, bytes: &[u8], at: usize) -> Result<QuantifiedAt, ReadFault>
+    requires { ⌜ length (now bytes) ≤ 65536 ⌝ }
+    ensures { λ r. ⌜ toldQuantified r ≡ readQuantified (meaning (now (alg .entry))) (now (bytes .entry)) at ⌝ }
+{
     let mut reader = BitReader { bytes, at };
     let Some(kind) = reader.next(1) else {
-        return Err(ReadFault { reason: Reason::EndsInField, place: at });
+        return Err(ReadFault {
+            reason: Reason::EndsInField,
+            place: at,
+        });
     };
     let x = read_sort(alg, bytes, reader.at)?;
-    Ok(QuantifiedAt { quantified: Quantified { quantifier: quantifier_of(kind), sort: x.sort }, next: x.next })
+    Ok(QuantifiedAt {
+        quantified: Quantified {
+            quantifier: quantifier_of(kind),
+            sort: x.sort,
+        },
+        next: x.next,
+    })
 }
 
 #[derive(Clone, Copy)]
@@ -66,8 +113,20 @@ pub struct Quantifieds {
     pub next: usize,
 }
 
-fn read_quantifieds<G: Algebra>(alg: &G, bytes: &[u8], at: usize, count: u8) -> Result<Quantifieds, ReadFault> {
-    let mut quantified = [Quantified { quantifier: Quantifier::Exists, sort: 0 }; 3];
+fn read_quantifieds<G: Algebra>(
+    alg: &G,
+    bytes: &[u8],
+    at: usize,
+    count: u8,
+) -> Result<Quantifieds, ReadFault>
+    requires small { ⌜ length (now bytes) ≤ 65536 ⌝ }
+    requires few { ⌜ count ≤ 3 ⌝ }
+    ensures { λ r. ⌜ toldQuantifieds count r ≡ repeated (readQuantified (meaning (now (alg .entry)))) count (now (bytes .entry)) at ⌝ }
+{
+    let mut quantified = [Quantified {
+        quantifier: Quantifier::Exists,
+        sort: 0,
+    }; 3];
     let mut next = at;
     for i in 0..count {
         let x = read_quantified(alg, bytes, next)?;
@@ -83,25 +142,49 @@ pub struct HeaderAt {
     pub next: usize,
 }
 
-fn read_header<G: Algebra>(alg: &G, bytes: &[u8], at: usize) -> Result<HeaderAt, ReadFault> {
+fn read_header<G: Algebra>(alg: &G, bytes: &[u8], at: usize) -> Result<HeaderAt, ReadFault>
+    requires { ⌜ length (now bytes) ≤ 65536 ⌝ }
+    ensures { λ r. ⌜ toldHeader r ≡ readHeader (meaning (now (alg .entry))) (now (bytes .entry)) at ⌝ }
+{
     let mut reader = BitReader { bytes, at };
     let Some(sign) = reader.next(1) else {
-        return Err(ReadFault { reason: Reason::EndsInField, place: at });
+        return Err(ReadFault {
+            reason: Reason::EndsInField,
+            place: at,
+        });
     };
     let place = reader.at;
     let Some(count) = reader.next(4) else {
-        return Err(ReadFault { reason: Reason::EndsInField, place });
+        return Err(ReadFault {
+            reason: Reason::EndsInField,
+            place,
+        });
     };
     let sorts = read_sorts(alg, bytes, reader.at, count as u8)?;
-    let mut reader = BitReader { bytes, at: sorts.next };
+    let mut reader = BitReader {
+        bytes,
+        at: sorts.next,
+    };
     let Some(number) = reader.next(2) else {
-        return Err(ReadFault { reason: Reason::EndsInField, place: sorts.next });
+        return Err(ReadFault {
+            reason: Reason::EndsInField,
+            place: sorts.next,
+        });
     };
     let variables = read_quantifieds(alg, bytes, reader.at, number as u8)?;
     let sorts = sorts.sorts;
     let quantified = variables.quantified;
-    let header = Header { sign: sign_of(sign), count: count as u8, sorts, number: number as u8, quantified };
-    Ok(HeaderAt { header, next: variables.next })
+    let header = Header {
+        sign: sign_of(sign),
+        count: count as u8,
+        sorts,
+        number: number as u8,
+        quantified,
+    };
+    Ok(HeaderAt {
+        header,
+        next: variables.next,
+    })
 }
 
 #[derive(Clone, Copy)]
@@ -110,10 +193,28 @@ pub struct Headers {
     pub next: usize,
 }
 
-pub(crate) fn read_headers<G: Algebra>(alg: &G, bytes: &[u8], at: usize, count: u8) -> Result<Headers, ReadFault> {
+pub(crate) fn read_headers<G: Algebra>(
+    alg: &G,
+    bytes: &[u8],
+    at: usize,
+    count: u8,
+) -> Result<Headers, ReadFault>
+    requires small { ⌜ length (now bytes) ≤ 65536 ⌝ }
+    requires few { ⌜ count ≤ 31 ⌝ }
+    ensures { λ r. ⌜ toldHeaders count r ≡ repeated (readHeader (meaning (now (alg .entry)))) count (now (bytes .entry)) at ⌝ }
+{
     let sorts = [0u8; 15];
-    let quantified = [Quantified { quantifier: Quantifier::Exists, sort: 0 }; 3];
-    let mut table = [Header { sign: Sign::Least, count: 0, sorts, number: 0, quantified }; 31];
+    let quantified = [Quantified {
+        quantifier: Quantifier::Exists,
+        sort: 0,
+    }; 3];
+    let mut table = [Header {
+        sign: Sign::Least,
+        count: 0,
+        sorts,
+        number: 0,
+        quantified,
+    }; 31];
     let mut next = at;
     for i in 0..count {
         let x = read_header(alg, bytes, next)?;
@@ -122,4 +223,3 @@ pub(crate) fn read_headers<G: Algebra>(alg: &G, bytes: &[u8], at: usize, count: 
     }
     Ok(Headers { table, next })
 }
-

@@ -21,7 +21,9 @@ pub fn occurs<G: Algebra>(alg: &G, view: View, k: u8, depth: u8) -> bool {
             Parts::Zero => false,
             Parts::One(a) => occurs(alg, a, k, depth - 1),
             Parts::Two(a, b) => occurs(alg, a, k, depth - 1) || occurs(alg, b, k, depth - 1),
-            Parts::Three(a, b, c) => occurs(alg, a, k, depth - 1) || occurs(alg, b, k, depth - 1) || occurs(alg, c, k, depth - 1),
+            Parts::Three(a, b, c) => occurs(alg, a, k, depth - 1)
+                || occurs(alg, b, k, depth - 1)
+                || occurs(alg, c, k, depth - 1),
         },
         Term::Not(a) => occurs(alg, a, k, depth - 1),
         Term::And(a, b) => occurs(alg, a, k, depth - 1) || occurs(alg, b, k, depth - 1),

@@ -15,15 +15,26 @@ pub struct Environment {
 impl Environment {
     /// Nothing is known.
     pub fn unknown() -> Environment {
-        Environment { parameters: [None; 15], variables: [None; 3] }
+        Environment {
+            parameters: [None; 15],
+            variables: [None; 3],
+        }
     }
 
     fn parameter(&self, n: u8) -> Option<u8> {
-        if n < 15 { self.parameters[n as usize] } else { None }
+        if n < 15 {
+            self.parameters[n as usize]
+        } else {
+            None
+        }
     }
 
     fn variable(&self, n: u8) -> Option<u8> {
-        if n < 3 { self.variables[n as usize] } else { None }
+        if n < 3 {
+            self.variables[n as usize]
+        } else {
+            None
+        }
     }
 }
 

@@ -54,30 +54,68 @@ pub enum Term<'a> {
 
 // The kind of the term at the view.
 fn open_term<G: Algebra>(alg: &G, view: View) -> Option<Opening> {
-    let mut reader = BitReader { bytes: view.bytes, at: view.at };
+    let mut reader = BitReader {
+        bytes: view.bytes,
+        at: view.at,
+    };
     match reader.next(3)? {
         0 => {
             let n = reader.next(4)?;
-            Some(Opening { kind: Kind::Parameter(n as u8), parts: 0, next: reader.at })
+            Some(Opening {
+                kind: Kind::Parameter(n as u8),
+                parts: 0,
+                next: reader.at,
+            })
         }
         1 => {
             let n = reader.next(2)?;
-            Some(Opening { kind: Kind::Variable(n as u8), parts: 0, next: reader.at })
+            Some(Opening {
+                kind: Kind::Variable(n as u8),
+                parts: 0,
+                next: reader.at,
+            })
         }
         2 => {
             let sort = reader.next(4)?;
             let value = reader.next(8)?;
-            Some(Opening { kind: Kind::Value { sort: sort as u8, value: value as u8 }, parts: 0, next: reader.at })
+            Some(Opening {
+                kind: Kind::Value {
+                    sort: sort as u8,
+                    value: value as u8,
+                },
+                parts: 0,
+                next: reader.at,
+            })
         }
         3 => {
             let op = reader.next(6)?;
             let parts = alg.arity(op as u8)?;
-            Some(Opening { kind: Kind::Operation(op as u8), parts, next: reader.at })
+            Some(Opening {
+                kind: Kind::Operation(op as u8),
+                parts,
+                next: reader.at,
+            })
         }
-        4 => Some(Opening { kind: Kind::Not, parts: 1, next: reader.at }),
-        5 => Some(Opening { kind: Kind::And, parts: 2, next: reader.at }),
-        6 => Some(Opening { kind: Kind::Or, parts: 2, next: reader.at }),
-        _ => Some(Opening { kind: Kind::Equal, parts: 2, next: reader.at }),
+        4 => Some(Opening {
+            kind: Kind::Not,
+            parts: 1,
+            next: reader.at,
+        }),
+        5 => Some(Opening {
+            kind: Kind::And,
+            parts: 2,
+            next: reader.at,
+        }),
+        6 => Some(Opening {
+            kind: Kind::Or,
+            parts: 2,
+            next: reader.at,
+        }),
+        _ => Some(Opening {
+            kind: Kind::Equal,
+            parts: 2,
+            next: reader.at,
+        }),
     }
 }
 
@@ -89,7 +127,14 @@ pub fn end_of_term<G: Algebra>(alg: &G, view: View, depth: u8) -> Option<usize> 
     let opening = open_term(alg, view)?;
     let mut at = opening.next;
     for _i in 0..opening.parts {
-        at = end_of_term(alg, View { bytes: view.bytes, at }, depth - 1)?;
+        at = end_of_term(
+            alg,
+            View {
+                bytes: view.bytes,
+                at,
+            },
+            depth - 1,
+        )?;
     }
     Some(at)
 }
@@ -97,7 +142,10 @@ pub fn end_of_term<G: Algebra>(alg: &G, view: View, depth: u8) -> Option<usize> 
 // The view behind the term at the view.
 fn behind<'a, G: Algebra>(alg: &G, view: View<'a>, depth: u8) -> Option<View<'a>> {
     let at = end_of_term(alg, view, depth)?;
-    Some(View { bytes: view.bytes, at })
+    Some(View {
+        bytes: view.bytes,
+        at,
+    })
 }
 
 // The arguments of an operation, the first at the view.
@@ -122,7 +170,10 @@ pub fn read_term<'a, G: Algebra>(alg: &G, view: View<'a>, depth: u8) -> Option<T
         return None;
     }
     let opening = open_term(alg, view)?;
-    let first = View { bytes: view.bytes, at: opening.next };
+    let first = View {
+        bytes: view.bytes,
+        at: opening.next,
+    };
     match opening.kind {
         Kind::Parameter(n) => Some(Term::Parameter(n)),
         Kind::Variable(n) => Some(Term::Variable(n)),

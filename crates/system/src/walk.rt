@@ -42,7 +42,11 @@ pub fn open_body<G: Algebra>(alg: &G, bytes: &[u8], at: usize) -> Option<BodyAt>
     let end = end_of_term(alg, View { bytes, at }, DEPTH)?;
     let mut reader = BitReader { bytes, at: end };
     let count = reader.next(4)?;
-    Some(BodyAt { h: at, count: count as u8, next: reader.at })
+    Some(BodyAt {
+        h: at,
+        count: count as u8,
+        next: reader.at,
+    })
 }
 
 /// The opening of the clause at the place.
@@ -50,11 +54,20 @@ pub fn open_clause<G: Algebra>(alg: &G, bytes: &[u8], at: usize) -> Option<Claus
     let end = end_of_term(alg, View { bytes, at }, DEPTH)?;
     let mut reader = BitReader { bytes, at: end };
     let count = reader.next(3)?;
-    Some(ClauseAt { guard: at, count: count as u8 + 1, next: reader.at })
+    Some(ClauseAt {
+        guard: at,
+        count: count as u8 + 1,
+        next: reader.at,
+    })
 }
 
 /// The occurrence at the place.
-pub fn open_occurrence<G: Algebra>(alg: &G, outline: &Outline, bytes: &[u8], at: usize) -> Option<OccurrenceAt> {
+pub fn open_occurrence<G: Algebra>(
+    alg: &G,
+    outline: &Outline,
+    bytes: &[u8],
+    at: usize,
+) -> Option<OccurrenceAt> {
     let mut reader = BitReader { bytes, at };
     let target = reader.next(5)?;
     if target >= outline.count as u32 {
@@ -67,11 +80,21 @@ pub fn open_occurrence<G: Algebra>(alg: &G, outline: &Outline, bytes: &[u8], at:
         arguments[k as usize] = next;
         next = end_of_term(alg, View { bytes, at: next }, DEPTH)?;
     }
-    Some(OccurrenceAt { target: target as u8, count, arguments, next })
+    Some(OccurrenceAt {
+        target: target as u8,
+        count,
+        arguments,
+        next,
+    })
 }
 
 /// The place behind the clause at the place.
-pub fn end_of_clause<G: Algebra>(alg: &G, outline: &Outline, bytes: &[u8], at: usize) -> Option<usize> {
+pub fn end_of_clause<G: Algebra>(
+    alg: &G,
+    outline: &Outline,
+    bytes: &[u8],
+    at: usize,
+) -> Option<usize> {
     let clause = open_clause(alg, bytes, at)?;
     let mut next = clause.next;
     for _k in 0..clause.count {

@@ -1,0 +1,4 @@
+use Rattle.system.proofs.occur.+occurs.Given as given
+
+abbrev pub μ-occurs : given.MeasureT-occurs
+μ-occurs g l = l .depth

@@ -1,0 +1,4 @@
+pub mod Steps
+pub mod Files
+pub mod Bodies
+pub mod Whole
