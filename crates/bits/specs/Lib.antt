@@ -1,0 +1,2 @@
+pub mod Took
+pub mod Put
