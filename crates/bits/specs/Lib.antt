@@ -1,2 +1,3 @@
 pub mod Took
 pub mod Put
+pub mod Back
