@@ -150,7 +150,11 @@ impl TableFault {
     pub fn innermost(self) -> Fault
         ensures { λ r. ⌜ r ≡ ofTable self ⌝ }
     {
-        Fault { reason: self.reason, layer: Layer::Table, place: self.place }
+        Fault {
+            reason: self.reason,
+            layer: Layer::Table,
+            place: self.place,
+        }
     }
 }
 
@@ -159,7 +163,11 @@ impl ReadFault {
     pub fn innermost(self) -> Fault
         ensures { λ r. ⌜ r ≡ ofRead self ⌝ }
     {
-        Fault { reason: self.reason, layer: Layer::Read, place: self.place }
+        Fault {
+            reason: self.reason,
+            layer: Layer::Read,
+            place: self.place,
+        }
     }
 }
 
@@ -170,7 +178,11 @@ impl PassFault {
     {
         match self {
             PassFault::Reading(fault) => fault.innermost(),
-            PassFault::Declined(reason) => Fault { reason, layer: Layer::Pass, place: 0 },
+            PassFault::Declined(reason) => Fault {
+                reason,
+                layer: Layer::Pass,
+                place: 0,
+            },
         }
     }
 }
@@ -191,7 +203,11 @@ impl ExpandFault {
     {
         match self {
             ExpandFault::Unread(fault) => fault.innermost(),
-            ExpandFault::Refused(reason) => Fault { reason, layer: Layer::Expand, place: 0 },
+            ExpandFault::Refused(reason) => Fault {
+                reason,
+                layer: Layer::Expand,
+                place: 0,
+            },
         }
     }
 }
@@ -201,6 +217,10 @@ impl SolveFault {
     pub fn innermost(self) -> Fault
         ensures { λ r. ⌜ r ≡ ofSolve self ⌝ }
     {
-        Fault { reason: self.reason, layer: Layer::Solve, place: self.place }
+        Fault {
+            reason: self.reason,
+            layer: Layer::Solve,
+            place: self.place,
+        }
     }
 }

@@ -1,0 +1,1 @@
+-- What a table as kept means.

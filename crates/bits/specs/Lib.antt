@@ -1,0 +1,3 @@
+pub mod Took
+pub mod Put
+pub mod Back
