@@ -1,4 +1,10 @@
 //! The calls on a bench.
+ghost use mathlib.Core.Path.{_≡_};
+ghost use mathlib.Core.List.{List, [], _++_};
+ghost use Prim.Native.Nat.{ℕ, _<_, _≤_};
+ghost use lib.ListN.{length, drop};
+ghost use Rattle.bench.specs.Holds.{holding, Keeps, Puts};
+ghost use Rattle.expansion.specs.Fronts.{Expands};
 use crate::Bench;
 use algebra::Algebra;
 use expansion::Expansion;
@@ -25,43 +31,53 @@ use system::reading::read;
 
 impl Bench {
     /// A bench that holds nothing.
-    pub fn new() -> Bench {
+    pub fn new() -> Bench
+        ensures { λ r. ⌜ holding r ≡ [] ⌝ }
+    {
         Bench { bytes: [0; 8192], len: 0 }
     }
 
     /// The file that is held; empty where nothing is.
-    pub fn held(&self) -> &[u8] {
+    pub fn held(&self) -> &[u8]
+        ensures { λ r. ⌜ now r ≡ holding (now (self .entry)) ⌝ }
+    {
         &self.bytes[0..self.len]
     }
 
     /// Holds the file if it is that of a system that fits the algebra.
-    pub fn load<G: Algebra>(&mut self, alg: &G, file: &[u8]) -> Result<(), ReadFault> {
+    pub fn load<G: Algebra>(&mut self, alg: &G, file: &[u8]) -> Result<(), ReadFault>
+        ensures { λ r. ⌜ Puts (now (file .entry)) (holding (now (self .entry))) (holding (now (self .exit))) r ⌝ }
+    {
         let _outline = read(alg, file)?;
         let len = file.len();
         if len > 8192 {
             return Err(ReadFault { reason: Reason::BadLength, place: 0 });
         }
         let mut bytes = [0; 8192];
-        bytes[0..len].copy_from_slice(file);
+        copy(&mut bytes, file);
         self.bytes = bytes;
         self.len = len;
         Ok(())
     }
 
     /// Runs a pass on what is held.
-    pub fn run<G: Algebra, P: Pass>(&mut self, alg: &G, pass: &P) -> Result<(), PassFault> {
+    pub fn run<G: Algebra, P: Pass>(&mut self, alg: &G, pass: &P) -> Result<(), PassFault>
+        ensures { λ r. ⌜ Keeps (holding (now (self .entry))) (holding (now (self .exit))) r ⌝ }
+    {
         if self.len == 0 {
             return Err(PassFault::Declined(Reason::BenchEmpty));
         }
         let mut bytes = [0; 8192];
-        let len = pass.apply(alg, &self.bytes[0..self.len], &mut bytes)?;
+        let len = pass.apply(alg, self.held(), &mut bytes)?;
         self.bytes = bytes;
         self.len = len;
         Ok(())
     }
 
     /// Runs the pass that goes by the letter.
-    pub fn run_letter<G: Algebra>(&mut self, alg: &G, letter: char) -> Result<(), PassFault> {
+    pub fn run_letter<G: Algebra>(&mut self, alg: &G, letter: char) -> Result<(), PassFault>
+        ensures { λ r. ⌜ Keeps (holding (now (self .entry))) (holding (now (self .exit))) r ⌝ }
+    {
         if self.len == 0 {
             return Err(PassFault::Declined(Reason::BenchEmpty));
         }
@@ -75,23 +91,19 @@ impl Bench {
     }
 
     /// Runs C, F, R and U in rounds until a round leaves the file equal, and tells the number of the last round.
-    pub fn settle<G: Algebra>(&mut self, alg: &G) -> Result<usize, SettleFault> {
+    pub fn settle<G: Algebra>(&mut self, alg: &G) -> Result<usize, SettleFault>
+        ensures { λ r. ⌜ Keeps (holding (now (self .entry))) (holding (now (self .exit))) r ⌝ }
+    {
         let mut work = *self;
-        // Each round but the last makes the system smaller, and no system in a file of 65,536 bits is larger than that.
-        for round in 1..65538usize {
-            let before = work;
-            run_round(&mut work, alg, round)?;
-            if before.held() == work.held() {
-                *self = work;
-                return Ok(round);
-            }
-        }
+        let rounds = run_rounds(&mut work, alg)?;
         *self = work;
-        Ok(65537)
+        Ok(rounds)
     }
 
     /// Writes the Boolean file of the held system to the front of `out`; `work` is memory for the instances.
-    pub fn expand<G: Algebra>(&self, alg: &G, work: &mut [Instance], out: &mut [u8]) -> Result<Expansion, ExpandFault> {
+    pub fn expand<G: Algebra>(&self, alg: &G, work: &mut [Instance], out: &mut [u8]) -> Result<Expansion, ExpandFault>
+        ensures { λ r. ⌜ Expands (now (out .entry)) (now (out .exit)) r ⌝ }
+    {
         if self.len == 0 {
             return Err(ExpandFault::Refused(Reason::BenchEmpty));
         }
@@ -99,11 +111,22 @@ impl Bench {
     }
 }
 
+// Copies `part` to the front of `out`.
+fn copy(out: &mut [u8], part: &[u8])
+    requires { ⌜ length (now part) ≤ length (now out) ⌝ }
+    ensures { λ _. ⌜ now (out .exit) ≡ now (part .entry) ++ drop (length (now (part .entry))) (now (out .entry)) ⌝ }
+{
+    let n = part.len();
+    out[0..n].copy_from_slice(part);
+}
+
 // One pass of a round.
-fn run_turn<G: Algebra>(bench: &mut Bench, alg: &G, letter: char, round: usize) -> Result<(), Halt> {
+fn run_turn<G: Algebra>(bench: &mut Bench, alg: &G, letter: char, round: usize) -> Result<(), Halt>
+    requires { ⌜ letter < 128 ⌝ }
+{
     match bench.run_letter(alg, letter) {
         Ok(()) => Ok(()),
-        Err(fault) => Err(Halt { fault, letter: (letter as u32 & 0xff) as u8, round }),
+        Err(fault) => Err(Halt { fault, letter: letter as u8, round }),
     }
 }
 
@@ -113,4 +136,17 @@ fn run_round<G: Algebra>(bench: &mut Bench, alg: &G, round: usize) -> Result<(),
     run_turn(bench, alg, 'F', round)?;
     run_turn(bench, alg, 'R', round)?;
     run_turn(bench, alg, 'U', round)
+}
+
+// Rounds until one leaves the file equal: the number of the last.
+fn run_rounds<G: Algebra>(bench: &mut Bench, alg: &G) -> Result<usize, SettleFault> {
+    // Each round but the last makes the system smaller, and no system in a file of 65,536 bits is larger than that.
+    for round in 1..65537usize {
+        let before = *bench;
+        run_round(bench, alg, round)?;
+        if before.held() == bench.held() {
+            return Ok(round);
+        }
+    }
+    Ok(65537)
 }

@@ -1,4 +1,10 @@
 //! Expanding a system to a Boolean file: one variable for each instance that the start reaches.
+ghost use mathlib.Core.Path.{_≡_};
+ghost use mathlib.Core.List.{_++_};
+ghost use Prim.Native.Nat.{_≤_};
+ghost use lib.ListN.{length, drop};
+ghost use Rattle.expansion.specs.Fronts.{Expands};
+
 mod body;
 mod draft;
 
@@ -55,8 +61,19 @@ fn draft_file<G: Algebra>(alg: &G, outline: &Outline, file: &[u8], work: &mut [I
     Ok(Expansion { len, variables })
 }
 
+// Copies `part` to the front of `out`.
+fn copy(out: &mut [u8], part: &[u8])
+    requires { ⌜ length (now part) ≤ length (now out) ⌝ }
+    ensures { λ _. ⌜ now (out .exit) ≡ now (part .entry) ++ drop (length (now (part .entry))) (now (out .entry)) ⌝ }
+{
+    let n = part.len();
+    out[0..n].copy_from_slice(part);
+}
+
 /// Writes the Boolean file of the system in `file` to the front of `out`.
-pub fn expand<G: Algebra>(alg: &G, file: &[u8], work: &mut [Instance], out: &mut [u8]) -> Result<Expansion, ExpandFault> {
+pub fn expand<G: Algebra>(alg: &G, file: &[u8], work: &mut [Instance], out: &mut [u8]) -> Result<Expansion, ExpandFault>
+    ensures { λ r. ⌜ Expands (now (out .entry)) (now (out .exit)) r ⌝ }
+{
     let outline = read(alg, file)?;
     let mut buffer = [0u8; LONGEST_BOOLEAN];
     let expansion = draft_file(alg, &outline, file, work, &mut buffer)?;
@@ -64,6 +81,6 @@ pub fn expand<G: Algebra>(alg: &G, file: &[u8], work: &mut [Instance], out: &mut
     if len > out.len() || len > LONGEST_BOOLEAN {
         return Err(ExpandFault::Refused(Reason::BooleanTooLong));
     }
-    out[0..len].copy_from_slice(&buffer[0..len]);
+    copy(out, &buffer[0..len]);
     Ok(expansion)
 }

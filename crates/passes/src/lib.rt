@@ -1,4 +1,6 @@
 //! Passes: each reads a system file and writes the file of a system with the same verdict.
+ghost use Rattle.passes.specs.Fronts.{Fronts};
+
 pub mod constants;
 pub mod folding;
 mod plan;
@@ -13,5 +15,6 @@ use faults::PassFault;
 /// A pass means one system for each system and algebra.
 pub trait Pass {
     /// Writes the file of the meant system to the front of `out`, and tells its length.
-    fn apply<G: Algebra>(&self, alg: &G, file: &[u8], out: &mut [u8]) -> Result<usize, PassFault>;
+    fn apply<G: Algebra>(&self, alg: &G, file: &[u8], out: &mut [u8]) -> Result<usize, PassFault>
+        ensures { λ r. ⌜ Fronts (now (out .entry)) (now (out .exit)) r ⌝ };
 }

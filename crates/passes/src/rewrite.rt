@@ -1,4 +1,9 @@
 //! Writing the file of a system as a plan changes it.
+ghost use mathlib.Core.Path.{_≡_};
+ghost use mathlib.Core.List.{_++_};
+ghost use Prim.Native.Nat.{_≤_};
+ghost use lib.ListN.{length, drop};
+ghost use Rattle.passes.specs.Fronts.{Fronts};
 use crate::plan::Plan;
 use crate::plan::number_among;
 use crate::plan::renumbered;
@@ -181,15 +186,37 @@ fn draft<G: Algebra>(alg: &G, outline: &Outline, plan: &Plan, file: &[u8], buffe
     Ok(writer.close())
 }
 
+// Copies `part` to the front of `out`.
+fn copy(out: &mut [u8], part: &[u8])
+    requires { ⌜ length (now part) ≤ length (now out) ⌝ }
+    ensures { λ _. ⌜ now (out .exit) ≡ now (part .entry) ++ drop (length (now (part .entry))) (now (out .entry)) ⌝ }
+{
+    let n = part.len();
+    out[0..n].copy_from_slice(part);
+}
+
+// Copies `part` to the front of `out`, if there is room.
+fn deliver(out: &mut [u8], part: &[u8]) -> Result<usize, PassFault>
+    ensures { λ r. ⌜ Fronts (now (out .entry)) (now (out .exit)) r ⌝ }
+{
+    let n = part.len();
+    if n > out.len() || n > LONGEST {
+        return Err(PassFault::Declined(Reason::ResultTooLong));
+    }
+    copy(out, part);
+    Ok(n)
+}
+
 /// Writes the file of the system as the plan changes it to the front of `out`, and tells its length.
-pub(crate) fn write_planned<G: Algebra>(alg: &G, outline: &Outline, plan: &Plan, file: &[u8], out: &mut [u8]) -> Result<usize, PassFault> {
+pub(crate) fn write_planned<G: Algebra>(alg: &G, outline: &Outline, plan: &Plan, file: &[u8], out: &mut [u8]) -> Result<usize, PassFault>
+    ensures { λ r. ⌜ Fronts (now (out .entry)) (now (out .exit)) r ⌝ }
+{
     let mut buffer = [0u8; LONGEST];
     let Ok(len) = draft(alg, outline, plan, file, &mut buffer) else {
         return Err(PassFault::Declined(Reason::ResultTooLong));
     };
-    if len > out.len() || len > LONGEST {
+    if len > LONGEST {
         return Err(PassFault::Declined(Reason::ResultTooLong));
     }
-    out[0..len].copy_from_slice(&buffer[0..len]);
-    Ok(len)
+    deliver(out, &buffer[0..len])
 }
