@@ -54,7 +54,7 @@ fn draft_file<G: Algebra>(alg: &G, outline: &Outline, file: &[u8], work: &mut [I
     let Some(()) = write_variables(alg, outline, file, &mut list, &mut draft) else {
         return Err(ExpandFault::Refused(Reason::TooManyInstances));
     };
-    let variables = list.len();
+    let variables = list.len;
     let Some(len) = draft.close(variables) else {
         return Err(ExpandFault::Refused(Reason::BooleanTooLong));
     };

@@ -11,7 +11,8 @@ ghost use Rattle.std.specs.Places.{At, Every};
 #[derive(Drop)]
 pub struct FirstCome<'a, T> {
     items: &'a mut [T],
-    len: usize,
+    /// How many records came.
+    pub len: usize,
     ghost within: { len ≤ length (held items) },
 }
 
@@ -43,13 +44,6 @@ impl<'a, T: PartialEq<T> + Copy> FirstCome<'a, T> {
         ensures same { λ r. ⌜ now (r .items) ≡ now (items .entry) ⌝ }
     {
         FirstCome { items, len: 0 }
-    }
-
-    /// How many records came.
-    pub fn len(&self) -> usize
-        ensures { λ r. ⌜ r ≡ now (self .entry) .len ⌝ }
-    {
-        self.len
     }
 
     /// The record that came at the place, or none where fewer came.

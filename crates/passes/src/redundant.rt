@@ -92,11 +92,11 @@ fn needed_come<G: Algebra>(alg: &G, outline: &Outline, file: &[u8], list: &mut F
     }
     // Each round but the last brings one of at most 465 parameters.
     for _round in 0..466 {
-        let before = list.len();
+        let before = list.len;
         for equation in 0..outline.count {
             pointing_come(alg, outline, equation, file, list)?;
         }
-        if list.len() == before {
+        if list.len == before {
             return Some(());
         }
     }
