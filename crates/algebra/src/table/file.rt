@@ -1,7 +1,7 @@
 //! Reading a table file.
 ghost use mathlib.Core.Path.{_≡_};
-use crate::table::Operation;
 use crate::table::Table;
+use crate::table::operation::Operation;
 use bits::BitReader;
 use faults::Reason;
 use faults::TableFault;

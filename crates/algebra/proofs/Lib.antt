@@ -1,0 +1,5 @@
+pub mod Lists
+pub mod Lawfuls
+pub mod Levels
+pub mod Counts
+pub mod Tables
