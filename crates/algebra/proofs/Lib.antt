@@ -3,3 +3,4 @@ pub mod Lawfuls
 pub mod Levels
 pub mod Counts
 pub mod Tables
+pub mod Places

@@ -15,9 +15,10 @@ use Rattle.definitions.specs.Alg.{Alg, Op, within, sized, algebra, Lawful}
 use Rattle.definitions.specs.Tables.{placeOf, TableOp, Table, tabled, table}
 use Rattle.definitions.specs.Fits.{Every}
 use Rattle.algebra.specs.Limits.{sizeFits, sizesFit}
-use Rattle.algebra.specs.Kept.{argsOf, valuesOf, keptOp, opSound, sizesSound, tableSound}
+use Rattle.algebra.specs.Kept.{argsOf, valuesOf, keptOp, kept, roomy, opSound, sizesSound, tableSound}
 use Rattle.algebra.specs.declared.table.operation.Operation.{Operation}
-use Rattle.algebra.proofs.Lists.{none-some, at-in, at-over, at-none, at-map, every-at, every-each, each-cons, front-in, front-out}
+use Rattle.algebra.proofs.Places.{place-below, value-at}
+use Rattle.algebra.proofs.Lists.{none-some, some-inj, at-in, at-over, at-none, at-map, every-at, every-each, each-cons, front-in, front-out}
 use Rattle.algebra.proofs.Lawfuls.{OpFits, algebra-lawful}
 
 pub size-fits : (n : ℕ) → sizeFits n ≡ true → (1 ≤ n) × (n ≤ 256)
@@ -80,3 +81,46 @@ module _ {X : Type 0} (sizes values : List ℕ) (os : List Operation) (i : ℕ) 
 
 pub args-long : (o : Operation) → length (argsOf o) ≡ o .arity
 args-long o = let h : o .arity ≤ 3 = o .few in let l : length (o .sorts) ≡ 3 = o .three in length-take-le (o .arity) (o .sorts) (omega arith)
+
+each-some : {A B : Type 0} (p : B → Bool) (g : A → B) (l : List A) (i : ℕ) (x : A) → each p (map g l) ≡ true → at l i ≡ Some x → p (g x) ≡ true
+each-some p g [] i x h e = none-some x e
+each-some p g (y ∷ l) zero x h e = ap (λ z. p (g z)) (sym (some-inj y x e)) ∙ each-cons p (g y) (map g l) h .0
+each-some p g (y ∷ l) (suc i) x h e = each-some p g l i x (each-cons p (g y) (map g l) h .1) e
+
+each-of : {A : Type 0} (p : A → Bool) (l : List A) (i : ℕ) (x : A) → each p l ≡ true → at l i ≡ Some x → p x ≡ true
+each-of p [] i x h e = none-some x e
+each-of p (y ∷ l) zero x h e = ap p (sym (some-inj y x e)) ∙ each-cons p y l h .0
+each-of p (y ∷ l) (suc i) x h e = each-of p l i x (each-cons p y l h .1) e
+
+-- one operation of a sound table
+module _ (n : ℕ) (sizes : List ℕ) (m : ℕ) (os : List Operation) (values : List ℕ) (i : ℕ) (o : Operation) (there : Some o ≡ at (take m os) i) where
+  pub args-known : tableSound (kept n sizes m os values) ≡ true → each (λ s. ltb s (length (take n sizes))) (argsOf o) ≡ true
+  args-known e =
+      let q = keptOp (take n sizes) values o in
+      let p = and-parts (sizesSound (take n sizes)) (leb (length (map (keptOp (take n sizes) values) (take m os))) 63 && each (opSound (take n sizes)) (map (keptOp (take n sizes) values) (take m os))) e in
+      let r = and-parts (leb (length (map (keptOp (take n sizes) values) (take m os))) 63) (each (opSound (take n sizes)) (map (keptOp (take n sizes) values) (take m os))) (p .1) in
+      let s = each-some (opSound (take n sizes)) (keptOp (take n sizes) values) (take m os) i o (r .1) (sym there) in
+      let tail = ltb (q .res) (length (take n sizes)) && each (λ v. ltb v (getD (take n sizes) (q .res) 0)) (q .values) in
+      let u = and-parts (leb (length (q .args)) 3) (each (λ s. ltb s (length (take n sizes))) (q .args) && tail) s in
+      and-parts (each (λ s. ltb s (length (take n sizes))) (q .args)) tail (u .1) .0
+
+  pub room-for : roomy (take n sizes) (take m os) ≡ true → o .offset + valuesOf (take n sizes) o ≤ 16384
+  room-for e = leb-true (o .offset + valuesOf (take n sizes) o) 16384 (each-of (λ o. leb (o .offset + valuesOf (take n sizes) o) 16384) (take m os) i o e (sym there))
+
+  module _ (xs : List ℕ) where
+    pub value-none : within (sized (take n sizes) (argsOf o)) xs ≡ false → None ≡ table (kept n sizes m os values) .value i xs
+    value-none e =
+        sym (ap (λ (b : Bool). elim b [ true ↦ Some (tabled (take n sizes) (keptOp (take n sizes) values o) .run xs) | false ↦ None ]) e) ∙
+        ask-some (take n sizes) values (take m os) i (λ (q : Op). elim (within (sized (take n sizes) (q .args)) xs) [ true ↦ Some (q .run xs) | false ↦ None ]) o there
+
+    pub value-some : (p : ℕ) → within (sized (take n sizes) (argsOf o)) xs ≡ true → placeOf 0 (sized (take n sizes) (argsOf o)) xs ≡ p → Some (getD values (o .offset + p) 0) ≡ table (kept n sizes m os values) .value i xs
+    value-some p w e =
+        let zs = sized (take n sizes) (argsOf o) in
+        let b : placeOf 0 zs xs < product zs = (let h = place-below 0 zs xs w in omega arith) in
+        ap (λ (k : ℕ). Some (getD values (o .offset + k) 0)) (sym e) ∙ ap Some (sym (value-at values (o .offset) (valuesOf (take n sizes) o) (placeOf 0 zs xs) b)) ∙
+        sym (ap (λ (b : Bool). elim b [ true ↦ Some (tabled (take n sizes) (keptOp (take n sizes) values o) .run xs) | false ↦ None ]) w) ∙
+        ask-some (take n sizes) values (take m os) i (λ (q : Op). elim (within (sized (take n sizes) (q .args)) xs) [ true ↦ Some (q .run xs) | false ↦ None ]) o there
+
+-- a part from the start
+pub front-part : (n : ℕ) (l : List ℕ) → take (n - 0) l ≡ take n l
+front-part n l = let e : n - 0 ≡ n = omega arith in ap (λ k. take k l) e

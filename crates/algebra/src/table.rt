@@ -2,7 +2,7 @@
 ghost use mathlib.Core.Path.{_≡_};
 ghost use mathlib.Core.Bool.{true};
 ghost use Prim.Native.Nat.{_≤_};
-ghost use lib.ListN.{take};
+ghost use lib.ListN.{length, take};
 ghost use Rattle.algebra.specs.Kept.{kept as keptTable, roomy, tableSound};
 
 pub mod calls;
@@ -20,6 +20,7 @@ pub struct Table {
     operations: [Operation; 63],
     values: [u8; 16384],
     ghost few: { count ≤ 16 },
+    ghost places: { length operations ≡ 63 },
     ghost many: { number ≤ 63 },
     ghost sound: { tableSound (keptTable count sizes number operations values) ≡ true },
     ghost room: { roomy (take count sizes) (take number operations) ≡ true },

@@ -11,5 +11,5 @@ returns c =
     let t = c .args .self .now in
     let sizes = take (t .count) (t .sizes) in
     let os = take (t .number) (t .operations) in
-    let l : t .number ≡ length os = ? in
-    l ∙ sym (length-map os (keptOp sizes (t .values))) ∙ sym (length-map (map (keptOp sizes (t .values)) os) (tabled sizes))
+    let l : length os ≡ t .number = search needs in
+    sym l ∙ sym (length-map os (keptOp sizes (t .values))) ∙ sym (length-map (map (keptOp sizes (t .values)) os) (tabled sizes))
