@@ -4,3 +4,5 @@ pub mod Levels
 pub mod Counts
 pub mod Tables
 pub mod Places
+pub mod Rows
+pub mod Stays

@@ -5,7 +5,7 @@ use mathlib.Core.List.{List, [], _∷_, map}
 use Prim.Native.Nat.{ℕ, zero, suc, _+_, _-_, _*_, _^_, _<_, _≤_}
 use native.Mathlib.Omega.{arith}
 use native.Mathlib.Numerals.{add-one}
-use native.Mathlib.Nat.{pow-suc, mul-assoc, mul-le-mul-right, mul-le-mul-left, suc-mul}
+use native.Mathlib.Nat.{pow-suc, mul-assoc, mul-le-mul-right, mul-le-mul-left, mul-le-mul, suc-mul}
 use lib.Arith.{digits-lt}
 use lib.Dec.{ltb}
 use lib.ListN.{length, getD, take, drop, length-map}
@@ -104,7 +104,27 @@ unplaced false v e = refl
 pub value-at : (values : List ℕ) (offset m p : ℕ) → p < m → getD (take m (drop offset values)) p 0 ≡ getD values (offset + p) 0
 value-at values offset m p h = getD-take m (drop offset values) p 0 h ∙ getD-drop offset values p 0
 
+-- one factor more of a product
+pub product-next : (zs : List ℕ) (k t : ℕ) → k < length zs → t * product (drop k zs) ≡ t * getD zs k 0 * product (drop (k + 1) zs)
+product-next zs k t h = rw add-one (ap (λ l. t * product l) (drop-cons zs k 0 h) ∙ sym (mul-assoc t (getD zs k 0) (product (drop (suc k) zs))))
+
+pub product-end : (zs : List ℕ) (k t : ℕ) → length zs ≤ k → t * product (drop k zs) ≡ t
+product-end zs k t h = ap (λ l. t * product l) (drop-all zs k h) ∙ (let e : t * 1 ≡ t = omega arith in e)
+
+pub product-small : (t z k : ℕ) → t ≤ 65536 ^ k → z ≤ 65536 → t * z ≤ 65536 ^ (k + 1)
+product-small t z k ht hz =
+    let a : t * z ≤ 65536 ^ k * 65536 = mul-le-mul ht hz in
+    let e : 65536 ^ suc k ≡ 65536 ^ k * 65536 = pow-suc 65536 k in
+    rw add-one (omega arith)
+
 -- three sizes fit 48 bits
+pub power-le : (k n : ℕ) → k ≤ 3 → n ≤ 65536 ^ k → n ≤ 2 ^ 48
+power-le zero n h l = omega arith
+power-le (suc zero) n h l = omega arith
+power-le (suc (suc zero)) n h l = omega arith
+power-le (suc (suc (suc zero))) n h l = l
+power-le (suc (suc (suc (suc k)))) n h l = absurd (omega arith)
+
 pub power : (k n : ℕ) → k ≤ 3 → n < 65536 ^ k → n < 2 ^ 48
 power zero n h l = omega arith
 power (suc zero) n h l = omega arith
