@@ -6,3 +6,4 @@ pub mod Tables
 pub mod Places
 pub mod Rows
 pub mod Stays
+pub mod Sounds

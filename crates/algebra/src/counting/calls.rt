@@ -84,7 +84,11 @@ impl Counting {
     fn counts_in(&self, op: u8) -> Option<u16>
         ensures { λ r. ⌜ r ≡ memberAt (take (now (self .entry) .count) (now (self .entry) .sizes)) (op / 4) ⌝ }
     {
-        if op / 4 < self.count { Some(self.sizes[(op / 4) as usize]) } else { None }
+        if op / 4 < self.count {
+            Some(self.sizes[(op / 4) as usize])
+        } else {
+            None
+        }
     }
 }
 
@@ -107,7 +111,11 @@ fn up(size: u16, args: &[u8]) -> Option<u8>
     let Some(a) = only(size, args) else {
         return None;
     };
-    if a as u16 + 1 == size { Some(a) } else { Some(a + 1) }
+    if a as u16 + 1 == size {
+        Some(a)
+    } else {
+        Some(a + 1)
+    }
 }
 
 /// One less, stopped at 0.
@@ -128,7 +136,11 @@ fn next(size: u16, args: &[u8]) -> Option<u8>
     let Some(a) = only(size, args) else {
         return None;
     };
-    if a as u16 + 1 == size { Some(0) } else { Some(a + 1) }
+    if a as u16 + 1 == size {
+        Some(0)
+    } else {
+        Some(a + 1)
+    }
 }
 
 /// Whether the first of two arguments is less.
@@ -175,7 +187,11 @@ pub impl Algebra for Counting as CountingAlgebra {
         if sort == 0 {
             return Some(2);
         }
-        if sort <= self.count { Some(self.sizes[sort as usize - 1]) } else { None }
+        if sort <= self.count {
+            Some(self.sizes[sort as usize - 1])
+        } else {
+            None
+        }
     }
 
     fn arity(&self, op: u8) -> Option<u8> {
@@ -202,7 +218,11 @@ pub impl Algebra for Counting as CountingAlgebra {
         if op / 4 >= self.count {
             return None;
         }
-        if op % 4 == 3 { Some(0) } else { Some(op / 4 + 1) }
+        if op % 4 == 3 {
+            Some(0)
+        } else {
+            Some(op / 4 + 1)
+        }
     }
 
     fn value(&self, op: u8, args: &[u8]) -> Option<u8> {

@@ -43,8 +43,19 @@ impl Table {
     pub fn new() -> Table
         ensures { λ r. ⌜ stored r ≡ record { sizes = 2 ∷ []; ops = [] } ⌝ }
     {
-        let none = Operation { arity: 0, sorts: [0; 3], result: 0, offset: 0 };
-        Table { count: 1, sizes: [2; 16], number: 0, operations: [none; 63], values: [0; 16384] }
+        let none = Operation {
+            arity: 0,
+            sorts: [0; 3],
+            result: 0,
+            offset: 0,
+        };
+        Table {
+            count: 1,
+            sizes: [2; 16],
+            number: 0,
+            operations: [none; 63],
+            values: [0; 16384],
+        }
     }
 
     /// Replaces all by what a table file says, or refuses it.
@@ -58,7 +69,11 @@ impl Table {
     fn operation(&self, op: u8) -> Option<Operation>
         ensures { λ r. ⌜ r ≡ memberAt (take (now (self .entry) .number) (now (self .entry) .operations)) op ⌝ }
     {
-        if op < self.number { Some(self.operations[op as usize]) } else { None }
+        if op < self.number {
+            Some(self.operations[op as usize])
+        } else {
+            None
+        }
     }
 }
 
@@ -74,7 +89,11 @@ pub impl Algebra for Table as TableAlgebra {
     }
 
     fn size(&self, sort: u8) -> Option<u16> {
-        if sort < self.count { Some(self.sizes[sort as usize]) } else { None }
+        if sort < self.count {
+            Some(self.sizes[sort as usize])
+        } else {
+            None
+        }
     }
 
     fn arity(&self, op: u8) -> Option<u8> {
@@ -88,7 +107,11 @@ pub impl Algebra for Table as TableAlgebra {
         let Some(o) = self.operation(op) else {
             return None;
         };
-        if k < o.arity { Some(o.sorts[k as usize]) } else { None }
+        if k < o.arity {
+            Some(o.sorts[k as usize])
+        } else {
+            None
+        }
     }
 
     fn result_sort(&self, op: u8) -> Option<u8> {
@@ -102,7 +125,11 @@ pub impl Algebra for Table as TableAlgebra {
         let Some(o) = self.operation(op) else {
             return None;
         };
-        let Some(place) = place_of(&self.sizes[0..self.count as usize], &o.sorts[0..o.arity as usize], args) else {
+        let Some(place) = place_of(
+            &self.sizes[0..self.count as usize],
+            &o.sorts[0..o.arity as usize],
+            args,
+        ) else {
             return None;
         };
         Some(self.values[o.offset + place])

@@ -76,9 +76,15 @@ fn read_size(bytes: &[u8], at: usize) -> Result<SizeAt, TableFault>
 {
     let mut reader = BitReader { bytes, at };
     let Some(size) = reader.next(8) else {
-        return Err(TableFault { reason: Reason::EndsInField, place: at });
+        return Err(TableFault {
+            reason: Reason::EndsInField,
+            place: at,
+        });
     };
-    Ok(SizeAt { size: size as u16 + 1, next: reader.at })
+    Ok(SizeAt {
+        size: size as u16 + 1,
+        next: reader.at,
+    })
 }
 
 /// The sizes behind sort 0's, with that before them.
@@ -95,7 +101,11 @@ fn read_more_sizes(bytes: &[u8], at: usize, more: u8) -> Result<Sizes, TableFaul
         sizes[i as usize + 1] = x.size;
         next = x.next;
     }
-    Ok(Sizes { count: more + 1, sizes, next })
+    Ok(Sizes {
+        count: more + 1,
+        sizes,
+        next,
+    })
 }
 
 fn read_sizes(bytes: &[u8], at: usize) -> Result<Sizes, TableFault>
@@ -105,14 +115,23 @@ fn read_sizes(bytes: &[u8], at: usize) -> Result<Sizes, TableFault>
 {
     let mut reader = BitReader { bytes, at };
     let Some(more) = reader.next(4) else {
-        return Err(TableFault { reason: Reason::EndsInField, place: at });
+        return Err(TableFault {
+            reason: Reason::EndsInField,
+            place: at,
+        });
     };
     let place = reader.at;
     let Some(truths) = reader.next(8) else {
-        return Err(TableFault { reason: Reason::EndsInField, place });
+        return Err(TableFault {
+            reason: Reason::EndsInField,
+            place,
+        });
     };
     if truths != 1 {
-        return Err(TableFault { reason: Reason::TruthSortSize, place });
+        return Err(TableFault {
+            reason: Reason::TruthSortSize,
+            place,
+        });
     }
     read_more_sizes(bytes, reader.at, more as u8)
 }
@@ -123,12 +142,21 @@ fn read_sort(bytes: &[u8], at: usize, count: u8) -> Result<SortAt, TableFault>
 {
     let mut reader = BitReader { bytes, at };
     let Some(sort) = reader.next(4) else {
-        return Err(TableFault { reason: Reason::EndsInField, place: at });
+        return Err(TableFault {
+            reason: Reason::EndsInField,
+            place: at,
+        });
     };
     if sort >= count as u32 {
-        return Err(TableFault { reason: Reason::NoSuchSort, place: at });
+        return Err(TableFault {
+            reason: Reason::NoSuchSort,
+            place: at,
+        });
     }
-    Ok(SortAt { sort: sort as u8, next: reader.at })
+    Ok(SortAt {
+        sort: sort as u8,
+        next: reader.at,
+    })
 }
 
 fn read_sorts(bytes: &[u8], at: usize, count: u8, arity: u8) -> Result<Sorts, TableFault>
@@ -165,16 +193,32 @@ fn read_value(bytes: &[u8], at: usize, size: u16) -> Result<ValueAt, TableFault>
 {
     let mut reader = BitReader { bytes, at };
     let Some(value) = reader.next(8) else {
-        return Err(TableFault { reason: Reason::EndsInField, place: at });
+        return Err(TableFault {
+            reason: Reason::EndsInField,
+            place: at,
+        });
     };
     if value >= size as u32 {
-        return Err(TableFault { reason: Reason::ValueTooLarge, place: at });
+        return Err(TableFault {
+            reason: Reason::ValueTooLarge,
+            place: at,
+        });
     }
-    Ok(ValueAt { value: value as u8, next: reader.at })
+    Ok(ValueAt {
+        value: value as u8,
+        next: reader.at,
+    })
 }
 
 /// Reads the values of an operation to their places among all, and tells the place behind them.
-fn read_values(bytes: &[u8], at: usize, size: u16, count: usize, values: &mut [u8], offset: usize) -> Result<usize, TableFault>
+fn read_values(
+    bytes: &[u8],
+    at: usize,
+    size: u16,
+    count: usize,
+    values: &mut [u8],
+    offset: usize,
+) -> Result<usize, TableFault>
     requires short { ⌜ length (now bytes) ≤ 16384 ⌝ }
     requires room { ⌜ length (now values) ≡ 16384 ⌝ }
     requires begun { ⌜ offset ≤ 16384 ⌝ }
@@ -192,7 +236,13 @@ fn read_values(bytes: &[u8], at: usize, size: u16, count: usize, values: &mut [u
     Ok(next)
 }
 
-fn read_operation(bytes: &[u8], at: usize, sizes: &[u16], values: &mut [u8], offset: usize) -> Result<OperationAt, TableFault>
+fn read_operation(
+    bytes: &[u8],
+    at: usize,
+    sizes: &[u16],
+    values: &mut [u8],
+    offset: usize,
+) -> Result<OperationAt, TableFault>
     requires short { ⌜ length (now bytes) ≤ 16384 ⌝ }
     requires few { ⌜ length (now sizes) ≤ 16 ⌝ }
     requires room { ⌜ length (now values) ≡ 16384 ⌝ }
@@ -204,19 +254,44 @@ fn read_operation(bytes: &[u8], at: usize, sizes: &[u16], values: &mut [u8], off
 {
     let mut reader = BitReader { bytes, at };
     let Some(arity) = reader.next(2) else {
-        return Err(TableFault { reason: Reason::EndsInField, place: at });
+        return Err(TableFault {
+            reason: Reason::EndsInField,
+            place: at,
+        });
     };
     let count = sizes.len() as u8;
     let args = read_sorts(bytes, reader.at, count, arity as u8)?;
     let sorts = args.sorts;
     let result = read_sort(bytes, args.next, count)?;
     let number = lists(sizes, &sorts[0..arity as usize]);
-    let next = read_values(bytes, result.next, sizes[result.sort as usize], number, values, offset)?;
-    let operation = Operation { arity: arity as u8, sorts, result: result.sort, offset };
-    Ok(OperationAt { operation, values: number, next })
+    let next = read_values(
+        bytes,
+        result.next,
+        sizes[result.sort as usize],
+        number,
+        values,
+        offset,
+    )?;
+    let operation = Operation {
+        arity: arity as u8,
+        sorts,
+        result: result.sort,
+        offset,
+    };
+    Ok(OperationAt {
+        operation,
+        values: number,
+        next,
+    })
 }
 
-fn read_operations(bytes: &[u8], at: usize, sizes: &[u16], count: u8, values: &mut [u8]) -> Result<Operations, TableFault>
+fn read_operations(
+    bytes: &[u8],
+    at: usize,
+    sizes: &[u16],
+    count: u8,
+    values: &mut [u8],
+) -> Result<Operations, TableFault>
     requires short { ⌜ length (now bytes) ≤ 16384 ⌝ }
     requires few { ⌜ length (now sizes) ≤ 16 ⌝ }
     requires many { ⌜ count ≤ 63 ⌝ }
@@ -224,7 +299,12 @@ fn read_operations(bytes: &[u8], at: usize, sizes: &[u16], count: u8, values: &m
     ensures reads { λ r. ⌜ told (λ x. map (keptOp (now (sizes .entry)) (now (values .exit))) (take count (x .operations))) (λ x. x .next) r ≡ repeated (readOp (now (sizes .entry))) count (now (bytes .entry)) at ⌝ }
     ensures fit { λ r. ⌜ Cases r (λ x. roomy (now (sizes .entry)) (take count (x .operations)) ≡ true) (λ _. Unit {0}) ⌝ }
 {
-    let none = Operation { arity: 0, sorts: [0; 3], result: 0, offset: 0 };
+    let none = Operation {
+        arity: 0,
+        sorts: [0; 3],
+        result: 0,
+        offset: 0,
+    };
     let mut operations = [none; 63];
     let mut offset = 0;
     let mut next = at;
@@ -261,19 +341,43 @@ pub fn read_table(file: &[u8]) -> Result<Table, TableFault>
     ensures { λ r. ⌜ judged r ≡ tableReading (now (file .entry)) ⌝ }
 {
     if file.len() == 0 || file.len() > 16384 {
-        return Err(TableFault { reason: Reason::BadLength, place: 0 });
+        return Err(TableFault {
+            reason: Reason::BadLength,
+            place: 0,
+        });
     }
     let x = read_sizes(file, 0)?;
     let sizes = x.sizes;
-    let mut reader = BitReader { bytes: file, at: x.next };
+    let mut reader = BitReader {
+        bytes: file,
+        at: x.next,
+    };
     let Some(number) = reader.next(6) else {
-        return Err(TableFault { reason: Reason::EndsInField, place: x.next });
+        return Err(TableFault {
+            reason: Reason::EndsInField,
+            place: x.next,
+        });
     };
     let mut values = [0u8; 16384];
-    let all = read_operations(file, reader.at, &sizes[0..x.count as usize], number as u8, &mut values)?;
+    let all = read_operations(
+        file,
+        reader.at,
+        &sizes[0..x.count as usize],
+        number as u8,
+        &mut values,
+    )?;
     if !ended(file, all.next) {
-        return Err(TableFault { reason: Reason::NotEnded, place: all.next });
+        return Err(TableFault {
+            reason: Reason::NotEnded,
+            place: all.next,
+        });
     }
     let operations = all.operations;
-    Ok(Table { count: x.count, sizes, number: number as u8, operations, values })
+    Ok(Table {
+        count: x.count,
+        sizes,
+        number: number as u8,
+        operations,
+        values,
+    })
 }

@@ -12,8 +12,7 @@ loop-i-again c =
     let xs : List ℕ = c .loop-i .all in
     let s : List ℕ = c .args .sizes .now in
     let i = c .loop-i .i in
-    let v = getD s i 0 in
-    (
+    let v = getD s i 0 in (
       length-set xs i v ∙ c .loop-i .inv .0,
       (let e : take (i + 1) (set xs i v) ≡ take (i + 1) s = rw add-one (take-suc-set xs i v (omega arith) ∙ ap (λ ys. ys ++ (v ∷ [])) (c .loop-i .inv .1) ∙ sym (take-suc s i 0 (omega arith))) in e),
     )

@@ -73,8 +73,7 @@ loop-k-again c =
     let z = getD (c .args .sizes .now) (getD ss k 0) 0 in
     let l : length zs ≡ length ss = sized-long (c .args .sizes .now) ss in
     let e : getD zs k 0 ≡ z = sized-at (c .args .sizes .now) ss k (omega arith) in
-    let hz : z < 65536 = search needs in
-    (
+    let hz : z < 65536 = search needs in (
       place-small n z (getD xs k 0) k (c .loop-k .inv .0) (omega arith) (omega arith),
       c .loop-k .inv .1 ∙ within-next zs xs k (omega arith) (omega arith) (omega arith),
       c .loop-k .inv .2 ∙ place-next zs xs k (omega arith) (omega arith) n ∙ ap (λ (m : ℕ). placeOf (n * m + getD xs k 0) (drop (k + 1) zs) (drop (k + 1) xs)) e,

@@ -35,8 +35,7 @@ loop-k-again c =
     let z = getD (c .args .sizes .now) (getD ss k 0) 0 in
     let hz : z < 65536 = search needs in
     let l : length zs ≡ length ss = sized-long (c .args .sizes .now) ss in
-    let e : getD zs k 0 ≡ z = sized-at (c .args .sizes .now) ss k (omega arith) in
-    (
+    let e : getD zs k 0 ≡ z = sized-at (c .args .sizes .now) ss k (omega arith) in (
       product-small t z k (c .loop-k .inv .0) (omega arith),
       c .loop-k .inv .1 ∙ product-next zs k t (omega arith) ∙ ap (λ (m : ℕ). t * m * product (drop (k + 1) zs)) e,
     )

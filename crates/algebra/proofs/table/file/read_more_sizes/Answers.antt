@@ -23,8 +23,7 @@ pub loop-i-again : need.loop-i-again
 loop-i-again c =
     let x = c .in-Continue-x .x in
     let i = c .loop-i .i in
-    let xs = c .loop-i .sizes in
-    (
+    let xs = c .loop-i .sizes in (
       length-set xs (i + 1) (x .size) ∙ c .loop-i .inv .0,
       c .loop-i .inv .1 ∙
           fill-next (c .args .bytes .now) readSize (take (i + 1) xs) (take (i + 1 + 1) (set xs (i + 1) (x .size))) (c .args .more) i (c .loop-i .next) (x .next) (x .size) (omega arith) (c .in-Continue-x .ensures tt)

@@ -37,8 +37,7 @@ loop-i-again c =
     let fit = c .in-Continue-x .ensures tt .fit in
     let a : o .offset ≡ n = fit .0 in
     let b : x .values ≡ valuesOf S o = fit .1 in
-    let same : take n ws ≡ take n vs = c .in-Continue-x .ensures tt .before in
-    (
+    let same : take n ws ≡ take n vs = c .in-Continue-x .ensures tt .before in (
       length-set os i o ∙ c .loop-i .inv .0,
       fit .2,
       fit .3,

@@ -21,8 +21,7 @@ pub loop-k-again : need.loop-k-again
 loop-k-again c =
     let x = c .in-Continue-x .x in
     let k = c .loop-k .k in
-    let xs = c .loop-k .sorts in
-    (
+    let xs = c .loop-k .sorts in (
       length-set xs k (x .sort) ∙ c .loop-k .inv .0,
       c .loop-k .inv .1 ∙
           fill-next (c .args .bytes .now) (takeFor 4 (below (c .args .count)) NoSuchSort) (take k xs) (take (k + 1) (set xs k (x .sort))) (c .args .arity) k (c .loop-k .next) (x .next) (x .sort) (omega arith) (c .in-Continue-x .ensures tt)

@@ -37,8 +37,7 @@ loop-i-again c =
     let h : c .loop-i .next + 8 ≤ 8 * length (c .args .bytes .now) = f .2 in
     let p : 8 * (o + i) ≤ c .loop-i .next = c .loop-i .inv .1 in
     let lw : length ws ≡ length vs - o = length-drop o vs in
-    let d : drop o (set vs (o + i) (x .value)) ≡ set ws i (x .value) = drop-set-add o vs i (x .value) in
-    (
+    let d : drop o (set vs (o + i) (x .value)) ≡ set ws i (x .value) = drop-set-add o vs i (x .value) in (
       omega arith,
       omega arith,
       take-set-le o vs (o + i) (x .value) (omega arith) ∙ c .loop-i .inv .2,
