@@ -1,3 +1,6 @@
 pub mod Limits
+pub mod Runs
 pub mod Counting
 pub mod Kept
+pub mod Tabled
+pub mod Told
