@@ -30,6 +30,7 @@ mod Knows
 mod Lightness
 mod Listing
 mod Marks
+mod MisreadingsFail
 mod Monotone
 mod Numbers
 mod Packs

@@ -2,6 +2,7 @@
 //! function; nothing here speaks of how a program works.
 
 ghost use Rattle.theorems.specs.Examples.{Examples};
+ghost use Rattle.theorems.specs.Misreadings.{Misreadings};
 ghost use Rattle.theorems.specs.Evaluation.{Terms-evaluate-in-sort, Arguments-land-in-sorts, Reached-instances-in-range, Known-values-agree};
 ghost use Rattle.theorems.specs.SolutionLaws.{Systems-solved, Booleans-solved};
 ghost use Rattle.theorems.specs.FileLaws.{Terms-read-back, Terms-read-fit, Systems-read-back, Systems-written-back, Booleans-read-back, Booleans-written-back, Tables-read-back, Tables-written-back, Unique-files};
@@ -18,6 +19,14 @@ ghost use Rattle.definitions.specs.Histories.{Verdict-kept};
 /// What the definitions come to on the sample system, its settled form, and terms at the depth limit.
 pub fn worked_examples() -> u8
     ensures { λ _. ⌜ Examples ⌝ }
+{
+    0
+}
+
+/// Four misreadings, each with a system on which it changes the verdict: C that follows occurrences once, C that keeps the first
+/// of two constants, R that drops a parameter which only feeds another, an inner rank solved once.
+pub fn misreadings_change_verdicts() -> u8
+    ensures { λ _. ⌜ Misreadings ⌝ }
 {
     0
 }
