@@ -27,7 +27,7 @@ use Rattle.theorems.proofs.Sounds.{Sound, Came, sound-then, sound-last, sound-
 use Rattle.theorems.proofs.Repack.{ended-got, repacked}
 use Rattle.theorems.proofs.BooleanBack.{booleanBits, boolean-bits}
 use Rattle.theorems.proofs.Shapes.{forms-count}
-use Rattle.theorems.proofs.Listing.{none-some, some-inj}
+use Rattle.theorems.proofs.Listing.{none-some, some-same}
 use Rattle.theorems.proofs.Numbers.{at-snoc, every-has}
 
 infixr 30 _⊕_
@@ -92,7 +92,7 @@ some-false {A} p (y ∷ l) j x h e = go (λ i q w. some-false p l i x q w) (p y)
   where
     go : ((i : ℕ) → some p l ≡ false → at l i ≡ Some x → p x ≡ false) → (b : Bool) → p y ≡ b → elim b [ true ↦ true | false ↦ some p l ] ≡ false → (i : ℕ) → at (y ∷ l) i ≡ Some x → p x ≡ false
     go ih true q w i u = absurd (true≢false w)
-    go ih false q w zero u = sym (ap p (some-inj y x u)) ∙ q
+    go ih false q w zero u = sym (ap p (some-same y x u)) ∙ q
     go ih false q w (suc i) u = ih i w u
 
 signs-same : (g h : Sign) → flip (sameSign g h) ≡ false → g ≡ h
@@ -125,7 +125,7 @@ first-of (u ∷ vs) r i v e q = go (λ k h. first-of vs r k v h q) (eqb (u .rank
     go : ((k : ℕ) → at vs k ≡ Some v → (j : ℕ) × (w : Variable) × (at vs j ≡ Some w) × (w .rank ≡ r) × (signOfRank (rankOf vs r) ≡ w .sign)) → (b : Bool) → eqb (u .rank) r ≡ b → (k : ℕ) → at (u ∷ vs) k ≡ Some v →
         (j : ℕ) × (w : Variable) × (at (u ∷ vs) j ≡ Some w) × (w .rank ≡ r) × (signOfRank (elim b [ true ↦ u ∷ rankOf vs r | false ↦ rankOf vs r ]) ≡ w .sign)
     go ih true h k d = (0, u, refl, eqb-true (u .rank) r h, refl)
-    go ih false h zero d = absurd (true≢false (sym (eq-eqb (u .rank) r (ap (λ (z : Variable). z .rank) (some-inj u v d) ∙ q)) ∙ h))
+    go ih false h zero d = absurd (true≢false (sym (eq-eqb (u .rank) r (ap (λ (z : Variable). z .rank) (some-same u v d) ∙ q)) ∙ h))
     go ih false h (suc k) d = let (j, w, a, b, c) = ih k d in (suc j, w, a, b, c)
 
 pub one-sign : (vs : List Variable) → OneSign vs → Every (λ (v : Variable). v .sign ≡ signOfRank (rankOf vs (v .rank))) vs

@@ -23,23 +23,23 @@ use Rattle.definitions.specs.Fits.{Every, SystemFits}
 use Rattle.theorems.specs.ExpandLaws.{Expands, Variables-are-reached-instances, variableTruths, Expansion-fits, Ships, Expansion-read-and-solved, Many, Declines, Expand-declined-rightly}
 use Rattle.definitions.specs.FileFits.{BooleanFits}
 use Rattle.definitions.specs.Reach.{ReachedInstance}
-use Rattle.theorems.proofs.Listing.{none-some, some-inj, every-at}
-use Rattle.theorems.proofs.Tokens.{InstanceFits, start-fits, tokens-fit}
+use Rattle.theorems.proofs.Listing.{none-some, some-same, every-at, and-left, and-right}
+use Rattle.theorems.specs.PassLaws.{InRange}
+use Rattle.theorems.proofs.Tokens.{start-fits, tokens-fit}
 use Rattle.theorems.proofs.Numbers.{Numbering, complete, comes-keep, comes-distinct, one-distinct, tokens-reached}
 use Rattle.theorems.proofs.Expands.{expands}
-use Rattle.theorems.proofs.Blocks.{and-left, and-right}
 use Rattle.theorems.proofs.Shapes.{variables-fit}
 use Rattle.theorems.proofs.BooleanBack.{boolean-back}
 
 module _ (a : Alg) (law : Lawful a) (s : System) (fits : SystemFits a s) where
-  pub all-fit : (n : ℕ) → Every (InstanceFits a s) (comes n a s 0 ((s .start, s .values) ∷ []))
-  all-fit n = comes-keep a s (InstanceFits a s) (tokens-fit a law s fits) n 0 ((s .start, s .values) ∷ []) (start-fits a law s fits, tt)
+  pub all-fit : (n : ℕ) → Every (InRange a s) (comes n a s 0 ((s .start, s .values) ∷ []))
+  all-fit n = comes-keep a s (InRange a s) (tokens-fit a law s fits) n 0 ((s .start, s .values) ∷ []) (start-fits a law s fits, tt)
 
   by-count : (n : ℕ) (vs : List Variable) (b : Bool) → leb (length (comes n a s 0 ((s .start, s .values) ∷ []))) n ≡ b →
       _≡_ {A = Option (List Variable)} (elim b [ true ↦ Some (map (variableOf a s (comes n a s 0 ((s .start, s .values) ∷ []))) (comes n a s 0 ((s .start, s .values) ∷ []))) | false ↦ None ]) (Some vs) →
       Expands a s vs
   by-count n vs true l e =
-      subst (Expands a s) (some-inj _ vs e)
+      subst (Expands a s) (some-same _ vs e)
       (expands a law s fits (comes n a s 0 ((s .start, s .values) ∷ [])) (complete a s n (leb-true (length (comes n a s 0 ((s .start, s .values) ∷ []))) n l)) (all-fit n))
   by-count n vs false l e = none-some vs e
 
@@ -48,7 +48,7 @@ module _ (a : Alg) (law : Lawful a) (s : System) (fits : SystemFits a s) where
       BooleanFits vs
   fits-by-count n vs true u l e =
       let k : length (comes n a s 0 ((s .start, s .values) ∷ [])) ≤ n = leb-true (length (comes n a s 0 ((s .start, s .values) ∷ []))) n l in
-      subst BooleanFits (some-inj _ vs e)
+      subst BooleanFits (some-same _ vs e)
       (variables-fit a law s fits (comes n a s 0 ((s .start, s .values) ∷ [])) (complete a s n k) (all-fit n) (omega arith))
   fits-by-count n vs false u l e = none-some vs e
 
@@ -126,7 +126,7 @@ module _ (a : Alg) (s : System) where
   come-many n m h =
       record {
         instances = comes n a s 0 ((s .start, s .values) ∷ []);
-        only = λ k x e. every-at (ReachedInstance a s) (comes n a s 0 ((s .start, s .values) ∷ [])) k x (comes-keep a s (ReachedInstance a s) (tokens-reached a s) n 0 ((s .start, s .values) ∷ []) (ReachedInstance.start, tt)) e;
+        only = λ k x e. every-at (ReachedInstance a s) (comes n a s 0 ((s .start, s .values) ∷ [])) k x e (comes-keep a s (ReachedInstance a s) (tokens-reached a s) n 0 ((s .start, s .values) ∷ []) (ReachedInstance.start, tt));
         once = comes-distinct a s n 0 ((s .start, s .values) ∷ []) (one-distinct a s (s .start, s .values));
         many = h;
       }
@@ -139,7 +139,7 @@ module _ (a : Alg) (s : System) where
   some-many : (n m : ℕ) (vs : List Variable) (b : Bool) → m < length vs →
       _≡_ {A = Option (List Variable)} (elim b [ true ↦ Some (map (variableOf a s (comes n a s 0 ((s .start, s .values) ∷ []))) (comes n a s 0 ((s .start, s .values) ∷ []))) | false ↦ None ]) (Some vs) → Many a s m
   some-many n m vs true h e =
-      come-many n m (subst (λ k. m < k) (sym (ap length (some-inj _ vs e)) ∙ length-map (comes n a s 0 ((s .start, s .values) ∷ [])) (variableOf a s (comes n a s 0 ((s .start, s .values) ∷ [])))) h)
+      come-many n m (subst (λ k. m < k) (sym (ap length (some-same _ vs e)) ∙ length-map (comes n a s 0 ((s .start, s .values) ∷ [])) (variableOf a s (comes n a s 0 ((s .start, s .values) ∷ [])))) h)
   some-many n m vs false h e = none-some vs e
 
   declining : (places room : ℕ) (vs : List Variable) → expanded a s ≡ Some vs → (r : ExpandFault) (b c : Bool) → leb (length vs) places ≡ b →

@@ -38,6 +38,7 @@ use Rattle.theorems.specs.PassLaws.{Passes-keep-rules}
 use Rattle.theorems.proofs.Whole.{whole-back, system-bits}
 use Rattle.theorems.proofs.Repack.{whole-forth, small-bytes}
 use Rattle.theorems.proofs.Expanding.{expand-ships}
+use Rattle.theorems.proofs.Listing.{from-long}
 
 clash : (x : PassFault) (g : List ℕ) → refused x ≡ wrote g → ⊥
 clash x g e = let z : _≡_ {A = ℕ} 0 1 = cc in omega arith
@@ -160,12 +161,8 @@ at-front : (xs ys : List ℕ) (b : ℕ) → at xs 0 ≡ Some b → at (xs ++ ys)
 at-front [] ys b e = let z : _≡_ {A = ℕ} 0 1 = cc in absurd (omega arith)
 at-front (x ∷ xs) ys b e = e
 
-upTo-long : (k n : ℕ) → length (from k n) ≡ n
-upTo-long k zero = refl
-upTo-long k (suc n) = ap suc (upTo-long (suc k) n)
-
 pub solves-long : (vs : List Variable) → length (solves vs) ≡ length vs
-solves-long vs = length-map (upTo (length vs)) _ ∙ upTo-long 0 (length vs)
+solves-long vs = length-map (upTo (length vs)) _ ∙ from-long 0 (length vs)
 
 -- a Boolean file that is read, solved
 pub first-byte : (g : List ℕ) (b : ℕ) (vs : List Variable) → booleanReading g ≡ got vs → at (solves vs) 0 ≡ Some b → FirstByte g b

@@ -22,12 +22,13 @@ use Rattle.definitions.specs.Constants.{Known, Knowledge, clauseBrings, equatio
 use Rattle.fixpoint.specs.Laws.{Agree, Matched}
 use Rattle.theorems.proofs.Knows.{Under, same, unknown, Unders, getD-under, trans-unders, Met, All, to-all, all-left, all-right}
 use Rattle.theorems.proofs.Stable.{stands}
-use Rattle.theorems.proofs.Monotone.{every-map, each-map, some-map, equals, each-is, some-is, under-is, clause-is, inside-is}
-use Rattle.theorems.proofs.RangesC.{some-same, none-some, arguments-low, arguments-there, values-low}
+use Rattle.theorems.proofs.Listing.{every-map, each-map, some-map, some-same, none-some, getD-at, at-mapFrom, mapFrom-twice, map-twice, every-mapped, every-at, every-two, at-map-some, at-mapped}
+use Rattle.theorems.proofs.Monotone.{equals, each-is, some-is, under-is, clause-is, inside-is}
+use Rattle.theorems.proofs.Ranges.{arguments-low, arguments-there, values-low}
 use Rattle.theorems.proofs.Agrees.{arguments-under, holds-not-false}
-use Rattle.theorems.proofs.Cut.{OnKinds, OnParameters, on-map, on-mapped, fits-scoped, terms-fit, strike-map, strike-within, renumber-value, cut-values, insert-value, getD-at, at-mapFrom, mapFrom-twice, map-twice, every-mapped, same-values, within-long, unders-long}
-use Rattle.theorems.proofs.BlocksC.{blocks-match, both-inside, truths-agree}
-use Rattle.theorems.proofs.ShapesC.{every-at, every-two, at-map, at-mapped, fits-shaped}
+use Rattle.theorems.proofs.Cut.{OnKinds, OnParameters, on-map, on-mapped, fits-scoped, terms-fit, strike-map, strike-within, renumber-value, cut-values, insert-value, same-values, within-long, unders-long}
+use Rattle.theorems.proofs.Blocks.{blocks-match, both-inside, truths-agree}
+use Rattle.theorems.proofs.FitShapes.{fits-shaped}
 
 -- what the knowledge brings is known
 pub bring-at : (a : Alg) (L : Knowledge) (es : List Equation) (K : Knowledge) (n : ℕ) (e : Equation) (k : Option Known) →
@@ -117,7 +118,7 @@ module _ (a : Alg) (s : System) where
         Unders (map Some ps) ks → (o : Occurrence) → OccurrenceFits a (map headerOf (s .equations)) c o → Met what (o .target, map (known a ks) (o .arguments)) →
         Kept (meant a ps vs o) (o .target, strike (getD masks (o .target) []) (valuesOf a ps vs (o .arguments)))
     target-kept c ps vs ks wp wv u o f m =
-        let (q, eq, eh) = at-map headerOf (s .equations) (o .target) (f .header) (f .there) in
+        let (q, eq, eh) = at-map-some headerOf (s .equations) (o .target) (f .header) (f .there) in
         record {
           equation = q;
           there = eq;
@@ -134,7 +135,7 @@ module _ (a : Alg) (s : System) where
 
     start-kept : Kept (s .start, s .values) (passC a s .start, passC a s .values)
     start-kept =
-        let (q, eq, eh) = at-map headerOf (s .equations) (s .start) (fit .header) (fit .there) in
+        let (q, eq, eh) = at-map-some headerOf (s .equations) (s .start) (fit .header) (fit .there) in
         record {
           equation = q;
           there = eq;

@@ -17,11 +17,11 @@ use Rattle.definitions.specs.Fits.{Every, headerOf, OccurrenceFits, ClauseFits,
 use Rattle.definitions.specs.Truth.{Instance, sizeOf, sizesOf, meant, clauseHolds, insideHolds, equationHolds, body, blockOf, truths, verdict}
 use Rattle.fixpoint.specs.Laws.{Agree, Matched}
 use Rattle.theorems.specs.PassLaws.{InRange, left}
-use Rattle.theorems.proofs.Monotone.{every-map, each-map, some-map, equals, each-is, some-is, under-is, clause-is, inside-is}
-use Rattle.theorems.proofs.RangesC.{some-same, none-some, arguments-low, values-low}
-use Rattle.theorems.proofs.Cut.{OnKinds, OnParameters, strike-map, strike-within, renumber-value, at-mapFrom, map-twice}
-use Rattle.theorems.proofs.BlocksC.{blocks-match, both-inside, truths-agree}
-use Rattle.theorems.proofs.ShapesC.{every-at, every-two, at-map}
+use Rattle.theorems.proofs.Listing.{every-map, each-map, some-map, some-same, none-some, at-mapFrom, map-twice, every-at, every-two, at-map-some}
+use Rattle.theorems.proofs.Monotone.{equals, each-is, some-is, under-is, clause-is, inside-is}
+use Rattle.theorems.proofs.Ranges.{arguments-low, values-low}
+use Rattle.theorems.proofs.Cut.{OnKinds, OnParameters, strike-map, strike-within, renumber-value}
+use Rattle.theorems.proofs.Blocks.{blocks-match, both-inside, truths-agree}
 
 -- a term of equation i that names kept parameters alone
 abbrev pub Keeps : List (List Bool) → ℕ → Term → Type 0
@@ -71,7 +71,7 @@ module _ (a : Alg) (s : System) (masks : List (List Bool)) where
       occurrence-kept : (o : Occurrence) → OccurrenceFits a (map headerOf (s .equations)) (scope (headerOf e)) o →
           Every (Keeps masks i) (strike (getD masks (o .target) []) (o .arguments)) → Struck (meant a ps vs o) (meant a (strike mask ps) vs (cut-occurrence o))
       occurrence-kept o b k =
-          let (q, eq, eh) = at-map headerOf (s .equations) (o .target) (b .header) (b .there) in
+          let (q, eq, eh) = at-map-some headerOf (s .equations) (o .target) (b .header) (b .there) in
           let m = getD masks (o .target) [] in
           record {
             equation = q;
@@ -135,7 +135,7 @@ module _ (a : Alg) (s : System) (masks : List (List Bool)) where
 
     pub keeps : verdict a (cut masks s) ≡ verdict a s
     keeps =
-        let (q, eq, eh) = at-map headerOf (s .equations) (s .start) (fit .header) (fit .there) in
+        let (q, eq, eh) = at-map-some headerOf (s .equations) (s .start) (fit .header) (fit .there) in
         truth-kept (s .start, s .values)
         (record {
           equation = q;

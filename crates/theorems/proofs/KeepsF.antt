@@ -22,13 +22,11 @@ use Rattle.fixpoint.specs.Laws.{Agree, Matched}
 use Rattle.theorems.specs.PassLaws.{F-keeps-truths}
 use Rattle.theorems.proofs.Knows.{Under, same, unknown}
 use Rattle.fixpoint.proofs.Rounds.{pick}
-use Rattle.theorems.proofs.Monotone.{every-map, every-of, each-map, some-map, equals, each-is, some-is, under-is, clause-is, inside-is}
-use Rattle.theorems.proofs.RangesC.{some-same, none-some}
+use Rattle.theorems.proofs.Listing.{every-map, every-of, each-map, some-map, some-same, none-some, map-twice, every-at, at-map-some, at-mapped, every-unmapped}
+use Rattle.theorems.proofs.Monotone.{equals, each-is, some-is, under-is, clause-is, inside-is}
 use Rattle.theorems.proofs.Agrees.{plain-under, under-some, holds-not-false}
-use Rattle.theorems.proofs.Cut.{same-values, map-twice}
-use Rattle.theorems.proofs.BlocksC.{truths-agree}
-use Rattle.theorems.proofs.ShapesC.{every-at, at-map, at-mapped}
-use Rattle.theorems.proofs.Refit.{every-unmapped}
+use Rattle.theorems.proofs.Cut.{same-values}
+use Rattle.theorems.proofs.Blocks.{truths-agree}
 
 module _ (a : Alg) (ps vs : List ℕ) where
   as-known : (o : Option ℕ) (k : Kind) (ts : Terms) → Under (valueOf a ps vs (node k ts)) o →

@@ -3,7 +3,6 @@ mod Algebraic
 mod Answerables
 mod Back
 mod Blocks
-mod BlocksC
 mod BooleanBack
 mod BooleanForth
 mod Closing
@@ -14,6 +13,7 @@ mod ExamplesHold
 mod Expanding
 mod Expands
 mod Fields
+mod FitShapes
 mod FitsC
 mod FitsCut
 mod FitsF
@@ -36,14 +36,12 @@ mod Numbers
 mod Packs
 mod PassRules
 mod Ranges
-mod RangesC
 mod Reaching
 mod Refit
 mod Repack
 mod RoundStrict
 mod Settled
 mod Shapes
-mod ShapesC
 mod Solutions
 mod Sounds
 mod Stable

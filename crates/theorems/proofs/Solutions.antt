@@ -11,8 +11,7 @@ use Rattle.theorems.specs.ExpandLaws.{variableTruths}
 use Rattle.theorems.specs.SolutionLaws.{Systems-solved, variableBody, Booleans-solved}
 use Rattle.fixpoint.proofs.Meaning.{one, found}
 use Rattle.theorems.proofs.Monotone.{body-mono}
-use Rattle.theorems.proofs.Enough.{blocks-enough}
-use Rattle.theorems.proofs.Blocks.{ranks-enough}
+use Rattle.theorems.proofs.Enough.{blocks-enough, ranks-enough}
 use Rattle.theorems.proofs.Expands.{variables-mono}
 
 pub systems-solved : Systems-solved

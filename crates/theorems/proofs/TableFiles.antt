@@ -19,7 +19,7 @@ use Rattle.definitions.specs.FileFits.{OpFits, TableFits}
 use Rattle.definitions.specs.Reading.{Reader, next, got, take, takeFor, below, repeated, give, _>>=_}
 use Rattle.definitions.specs.Tables.{TableOp, Table, readSize, readSizes, readSort, readOp, readTable, tableReading, opBits, tableBits, tableWritten}
 use Rattle.theorems.specs.FileLaws.{Tables-read-back, Tables-written-back}
-use Rattle.theorems.proofs.Listing.{none-some, some-inj, every-with}
+use Rattle.theorems.proofs.Listing.{none-some, some-same, every-with}
 use Rattle.theorems.proofs.Fields.{below-some, below-inv}
 use Rattle.theorems.proofs.Packs.{packs}
 use Rattle.theorems.proofs.Goods.{Good, good-then, good-last, good-take, good-for, good-must, good-here, good-repeated}
@@ -65,7 +65,7 @@ module _ (f : List ℕ) where
       (good-then f (take 4) _ (good-take f 4 (length zs) (omega arith))
       (good-here f _ (λ p.
       good-then f readSize _ (good-size z (h .0))
-      (good-must f (eqb z 2) TruthSortSize p (eq-eqb z 2 (some-inj z 2 e))
+      (good-must f (eqb z 2) TruthSortSize p (eq-eqb z 2 (some-same z 2 e))
       (good-last f (λ (ys : List ℕ). z ∷ ys) (good-repeated f readSize sizeBits zs (every-with SizeFits (λ n. Good f readSize n (sizeBits n)) zs (h .1) good-size)))))))
 
   module _ (sizes : List ℕ) (few : length sizes ≤ 16) (fits : Every SizeFits sizes) where

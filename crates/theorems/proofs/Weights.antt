@@ -16,6 +16,7 @@ use Rattle.definitions.specs.Terms.{onParameter, replaced, truthTerm, onOccurre
 use Rattle.definitions.specs.Constants.{Known, kindFor, bare, inserted, unknownOf, passC, leastKnowledge}
 use Rattle.definitions.specs.Passes.{folded, foldeds, foldedAs, foldedEquation, passF, needed, passR, renamed, reachable, passU}
 use Rattle.definitions.specs.Settle.{kindWeight, termWeight, occurrenceWeight, clauseWeight, falseTerm, fullness, equationWeight, weight}
+use Rattle.theorems.proofs.Listing.{strike-short}
 
 abbrev pub W : Kind → List ℕ → ℕ
 W k parts = kindWeight k + sum parts
@@ -35,12 +36,6 @@ strike-le w [] (x ∷ xs) = omega arith
 strike-le w (m ∷ ms) [] = omega arith
 strike-le w (true ∷ ms) (x ∷ xs) = omega (arith, strike-le w ms xs)
 strike-le w (false ∷ ms) (x ∷ xs) = omega (arith, strike-le w ms xs)
-
-pub strike-short : {A : Type 0} (ms : List Bool) (xs : List A) → length (strike ms xs) ≤ length xs
-strike-short [] xs = omega arith
-strike-short (m ∷ ms) [] = omega arith
-strike-short (true ∷ ms) (x ∷ xs) = omega (arith, strike-short ms xs)
-strike-short (false ∷ ms) (x ∷ xs) = omega (arith, strike-short ms xs)
 
 pub keep-le : {A : Type 0} (w : A → ℕ) (p : A → Bool) (xs : List A) → sum (map w (keep p xs)) ≤ sum (map w xs)
 keep-le w p [] = omega arith

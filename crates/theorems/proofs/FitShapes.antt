@@ -11,27 +11,7 @@ use Rattle.definitions.specs.Systems.{Term, Occurrence, Clause, Equation, Syste
 use Rattle.definitions.specs.ReadSystem.{Scope, Header, scope}
 use Rattle.definitions.specs.Fits.{Every, headerOf, TermsFit, ValuesFit, OccurrenceFits, ClauseFits, BodyFits, SystemFits}
 use Rattle.theorems.specs.KnowledgeLaws.{arities, Shaped}
-use Rattle.theorems.proofs.Monotone.{every-map}
-use Rattle.theorems.proofs.RangesC.{some-same, none-some}
-
-pub every-at : {A : Type 0} (P : A → Type 0) (xs : List A) (n : ℕ) (x : A) → at xs n ≡ Some x → Every P xs → P x
-every-at P [] n x e h = absurd (none-some x e)
-every-at P (y ∷ xs) zero x e h = subst P (some-same y x e) (h .0)
-every-at P (y ∷ xs) (suc n) x e h = every-at P xs n x e (h .1)
-
-pub every-two : {A : Type 0} {P Q R : A → Type 0} (xs : List A) → ((x : A) → P x → Q x → R x) → Every P xs → Every Q xs → Every R xs
-every-two [] f h k = tt
-every-two (x ∷ xs) f h k = (f x (h .0) (k .0), every-two xs f (h .1) (k .1))
-
-pub at-map : {A B : Type 0} (f : A → B) (xs : List A) (n : ℕ) (y : B) → at (map f xs) n ≡ Some y → (x : A) × (at xs n ≡ Some x) × (f x ≡ y)
-at-map f [] n y e = absurd (none-some y e)
-at-map f (x ∷ xs) zero y e = (x, refl, some-same (f x) y e)
-at-map f (x ∷ xs) (suc n) y e = at-map f xs n y e
-
-pub at-mapped : {A B : Type 0} (f : A → B) (xs : List A) (n : ℕ) (x : A) → at xs n ≡ Some x → at (map f xs) n ≡ Some (f x)
-at-mapped f [] n x e = absurd (none-some x e)
-at-mapped f (y ∷ xs) zero x e = ap (λ z. Some (f z)) (some-same y x e)
-at-mapped f (y ∷ xs) (suc n) x e = at-mapped f xs n x e
+use Rattle.theorems.proofs.Listing.{every-map, at-map-some, at-mapped}
 
 pub values-long : (a : Alg) (ss vs : List ℕ) → ValuesFit a ss vs → length ss ≡ length vs
 values-long a [] [] h = refl
@@ -47,7 +27,7 @@ terms-long a c (s ∷ ss) (t ∷ ts) h = ap suc (terms-long a c ss ts (h .1))
 
 arity-of : (es : List Equation) (n : ℕ) (h : Header) → at (map headerOf es) n ≡ Some h → at (arities es) n ≡ Some (length (h .sorts))
 arity-of es n h e =
-    let (q, eq, eh) = at-map headerOf es n h e in
+    let (q, eq, eh) = at-map-some headerOf es n h e in
     at-mapped (λ (e : Equation). length (e .sorts)) es n q eq ∙ ap (λ (z : Header). Some (length (z .sorts))) eh
 
 pub fits-shaped : (a : Alg) (s : System) → SystemFits a s → Shaped s
