@@ -6,7 +6,7 @@ use mathlib.Core.Bool.{Bool, true, false, So, _||_}
 use mathlib.Core.List.{List, [], _∷_, _++_, map}
 use mathlib.Core.Logic.{_⊎_, inl, inr}
 use Rattle.definitions.specs.Fits.{Every}
-use Rattle.definitions.specs.Solution.{Sign, Block, iter, edge, put, settled, solution}
+use Rattle.definitions.specs.Solution.{Block, iter, edge, put}
 use Rattle.definitions.specs.Order.{Order, toward, Below, Monotone, Enough}
 use Rattle.definitions.specs.Nested.{IsSolution, solve, outer}
 

@@ -1,18 +1,18 @@
 -- The algebra of some sizes and operations that keep to their ranges is lawful.
 use mathlib.Core.Path.{_≡_, refl, sym, _∙_, ap, ap₂, subst}
 use mathlib.Core.Bool.{Bool, true, false, _&&_, false≢true}
-use mathlib.Core.List.{List, [], _∷_, _++_, map}
-use Prim.Native.Nat.{ℕ, zero, suc, _+_, _-_, _*_, _%_, min, _<_, _≤_}
+use mathlib.Core.List.{List, [], _∷_, map}
+use Prim.Native.Nat.{ℕ, zero, suc, _+_, _-_, _*_, _%_, _<_, _≤_}
 use native.Mathlib.Nat.{mod-lt, mul-suc, mul-one, one-mul, mul-comm, mul-assoc, mul-le-mul-left}
 use native.Mathlib.Omega.{arith}
 use lib.Dec.{ltb, leb}
-use lib.ListN.{length, getD, length-append, length-map}
+use lib.ListN.{length, getD, length-map}
 use Rattle.std.proofs.shelf.Tests.{lt-ltb, ltb-true, leb-true}
 use Rattle.std.specs.declared.option.Option.{Option}
 use Rattle.std.specs.declared.option.Option.the-variants.{None, Some}
 use Rattle.definitions.specs.Lists.{at, bind, flat, each, product, mapFrom}
-use Rattle.definitions.specs.Alg.{Alg, Op, within, sized, algebra, Lawful}
-use Rattle.definitions.specs.Algebras.{first, second, truth, counts, counting, steps, level}
+use Rattle.definitions.specs.Alg.{Op, within, sized, algebra, Lawful}
+use Rattle.definitions.specs.Algebras.{first, second, truth, counts, counting, steps}
 use Rattle.definitions.specs.Fits.{Every}
 use Rattle.faults.specs.declared.Reason.the-variants.{BadCountingSizes}
 use Rattle.definitions.specs.Reading.{Reading, got, bad}

@@ -1,18 +1,16 @@
 -- Blocks of a system whose equations are changed one by one.
-use Prim.Native.Nat.{ℕ, zero, suc, _+_}
-use mathlib.Core.Path.{_≡_, refl, sym, _∙_, ap, ap₂, subst}
-use mathlib.Core.Bool.{Bool, true, false, _&&_, true≢false, false≢true}
-use mathlib.Core.List.{List, [], _∷_, map}
+use Prim.Native.Nat.{ℕ, suc, _+_}
+use mathlib.Core.Path.{_≡_, refl, sym, _∙_, ap, subst}
+use mathlib.Core.Bool.{Bool, true, false, _&&_}
+use mathlib.Core.List.{List, [], _∷_}
 use native.Mathlib.Omega.{arith}
 use lib.Dec.{eqb}
 use Rattle.std.proofs.shelf.Tests.{eqb-true}
-use Rattle.std.specs.declared.option.Option.{Option}
-use Rattle.std.specs.declared.option.Option.the-variants.{None, Some}
+use Rattle.std.specs.declared.option.Option.the-variants.{Some}
 use Rattle.definitions.specs.Lists.{at, mapFrom}
 use Rattle.definitions.specs.Alg.{Alg, within}
-use Rattle.definitions.specs.Solution.{Sign, Block, solution}
 use Rattle.definitions.specs.Systems.{Equation, System}
-use Rattle.definitions.specs.Truth.{Instance, sizesOf, blockOf, body, truths as truthsOf}
+use Rattle.definitions.specs.Truth.{Instance, blockOf, body, truths as truthsOf}
 use Rattle.definitions.specs.Order.{truths}
 use Rattle.fixpoint.specs.Laws.{Matched, Agree}
 use Rattle.theorems.proofs.Monotone.{body-mono}

@@ -4,26 +4,25 @@ use mathlib.Core.Path.{_≡_, refl, sym, _∙_, ap, ap₂, subst, subst₂}
 use mathlib.Core.Bool.{Bool, true, false, _&&_, not as flip, true≢false, false≢true}
 use mathlib.Core.List.{List, [], _∷_, _++_, map, append-nil, append-assoc}
 use mathlib.Core.Logic.{_⊎_, inl, inr}
-use Prim.Native.Nat.{ℕ, zero, suc, _+_, _-_, _*_, _^_, _<_, _≤_}
-use native.Mathlib.Nat.{add-zero, zero-add}
+use Prim.Native.Nat.{ℕ, zero, suc, _+_, _-_, _*_, _<_, _≤_}
+use native.Mathlib.Nat.{zero-add}
 use native.Mathlib.Omega.{arith}
-use lib.Dec.{leb, eqb, ltb}
+use lib.Dec.{eqb}
 use lib.ListN.{length, getD}
-use Rattle.std.specs.declared.option.Option.{Option}
-use Rattle.std.specs.declared.option.Option.the-variants.{None, Some}
-use Rattle.std.proofs.shelf.Tests.{ltb-true, eqb-true, eq-eqb}
+use Rattle.std.specs.declared.option.Option.the-variants.{Some}
+use Rattle.std.proofs.shelf.Tests.{eqb-true, eq-eqb}
 use Rattle.definitions.specs.Lists.{at, flat, some}
-use Rattle.definitions.specs.Bits.{field, bits, packed, Stands}
+use Rattle.definitions.specs.Bits.{field, bits, Stands}
 use Rattle.definitions.specs.Solution.{Sign, least, greatest}
-use Rattle.definitions.specs.Reading.{Step, next, stop, Reader, take, takeFor, follow, give, fail, here, below, repeated, got, _>>=_, _>>_, must}
+use Rattle.definitions.specs.Reading.{next, stop, take, takeFor, give, fail, below, repeated, _>>=_, _>>_}
 use Rattle.definitions.specs.ReadSystem.{signOf}
 use Rattle.definitions.specs.Written.{signBits}
-use Rattle.definitions.specs.Boolean.{Form, known, all, any, var, Forms, nil, cons, forms, count, Variable, formBits, formsBits, variableBits, booleanWritten, readToken, sameSign, clashes, readVariables, readBoolean, booleanReading, rankOf, signOfRank}
+use Rattle.definitions.specs.Boolean.{Form, known, all, any, var, forms, count, Variable, formBits, formsBits, variableBits, booleanWritten, readToken, sameSign, clashes, readVariables, readBoolean, rankOf, signOfRank}
 use Rattle.definitions.specs.Fits.{Every}
 use Rattle.definitions.specs.FileFits.{FormFits, fit-known, fit-all, fit-any, fit-var, FormsFit, fit-nil, fit-cons, BooleanFits}
 use Rattle.theorems.specs.FileLaws.{Booleans-written-back}
 use Rattle.theorems.proofs.Fields.{follow-inv, below-inv}
-use Rattle.theorems.proofs.Sounds.{Sound, Came, sound-then, sound-last, sound-take, For, sound-for, sound-must, sound-fail, sound-here, sound-give, sound-repeated, sound-map, stands-most, sign-same}
+use Rattle.theorems.proofs.Sounds.{Sound, sound-then, sound-last, sound-take, sound-for, sound-must, sound-fail, sound-here, sound-give, sound-repeated, sound-map, stands-most, sign-same}
 use Rattle.theorems.proofs.Repack.{ended-got, repacked}
 use Rattle.theorems.proofs.BooleanBack.{booleanBits, boolean-bits}
 use Rattle.theorems.proofs.Shapes.{forms-count}

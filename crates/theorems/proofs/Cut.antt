@@ -1,15 +1,14 @@
 -- Terms with their kinds changed, parameters removed and renumbered, and known ones replaced by values.
-use Prim.Native.Nat.{ℕ, zero, suc, _+_, _<_, _≤_}
-use mathlib.Core.Path.{_≡_, refl, sym, _∙_, ap, ap₂, subst}
-use mathlib.Core.Bool.{Bool, true, false, _&&_, false≢true, not as flip}
-use mathlib.Core.List.{List, [], _∷_, _++_, map}
-use native.Mathlib.Omega.{arith}
-use lib.Dec.{eqb, ltb}
+use Prim.Native.Nat.{ℕ, zero, suc}
+use mathlib.Core.Path.{_≡_, refl, sym, _∙_, ap, ap₂}
+use mathlib.Core.Bool.{Bool, true, false, false≢true}
+use mathlib.Core.List.{List, [], _∷_, map}
+use lib.Dec.{ltb}
 use lib.ListN.{length, getD}
 use Rattle.std.proofs.shelf.Tests.{and-parts, and-from}
 use Rattle.std.specs.declared.option.Option.{Option}
 use Rattle.std.specs.declared.option.Option.the-variants.{None, Some}
-use Rattle.definitions.specs.Lists.{at, strike, place, is-some, or-else, mapFrom}
+use Rattle.definitions.specs.Lists.{at, strike, place, or-else}
 use Rattle.definitions.specs.Alg.{Alg, within}
 use Rattle.definitions.specs.Systems.{Kind, parameter, variable, value, operation, not, and, or, equal, Term, Terms, node, none, more, term, terms, fold, folds}
 use Rattle.definitions.specs.Values.{kindKnown, valueOf, valuesOf}
@@ -18,7 +17,7 @@ use Rattle.definitions.specs.ReadSystem.{Scope}
 use Rattle.definitions.specs.Fits.{Fits, fit-parameter, fit-variable, fit-value, fit-operation, fit-not, fit-and, fit-or, fit-equal, FitsArgs, fit-none, fit-more, TermsFit, Every}
 use Rattle.definitions.specs.Constants.{kindFor}
 use Rattle.theorems.proofs.Knows.{Under, same, unknown, Unders, getD-under}
-use Rattle.theorems.proofs.Listing.{some-same, none-some}
+use Rattle.theorems.proofs.Listing.{none-some}
 
 -- every kind in a term
 abbrev mutual

@@ -1,7 +1,7 @@
 -- The rounds of an equation's block, and of a rank's, suffice.
-use Prim.Native.Nat.{ℕ, zero, suc, _+_, _*_, _<_, _≤_}
-use mathlib.Core.Path.{_≡_, refl, sym, _∙_, ap, ap₂, subst}
-use mathlib.Core.Bool.{Bool, true, false, _&&_, false≢true}
+use Prim.Native.Nat.{ℕ, zero, suc, _+_, _*_, _<_}
+use mathlib.Core.Path.{_≡_, refl, _∙_, ap}
+use mathlib.Core.Bool.{Bool, true, false, false≢true}
 use mathlib.Core.List.{List, [], _∷_, _++_, map, List·Memᴰ, List·Memᴰ·head, List·Memᴰ·tail, Memᴰ·map, Memᴰ·cast, Memᴰ·append-left, Memᴰ·append-right}
 use native.Mathlib.Nat.{one-mul, le-refl, suc-mul}
 use native.Mathlib.Decide.{decLt}
@@ -9,12 +9,10 @@ use native.Mathlib.Omega.{arith}
 use lib.Dec.{eqb, ltb}
 use lib.ListN.{length, length-append, length-map}
 use Rattle.std.proofs.shelf.Tests.{ltb-true, eqb-true, and-parts}
-use Rattle.std.specs.declared.option.Option.{Option}
-use Rattle.std.specs.declared.option.Option.the-variants.{None, Some}
 use Rattle.definitions.specs.Lists.{at, product, mapFrom}
 use Rattle.definitions.specs.Boolean.{Variable, rankOf, hasRank, rankBlock}
 use Rattle.definitions.specs.Alg.{Alg, within}
-use Rattle.definitions.specs.Systems.{Equation, System}
+use Rattle.definitions.specs.Systems.{Equation}
 use Rattle.definitions.specs.Truth.{Instance, sizesOf, blockOf}
 use Rattle.definitions.specs.Order.{truths, Enough}
 use Rattle.definitions.specs.Fits.{Every}

@@ -1,15 +1,13 @@
 -- Terms evaluate inside their sorts, and reached instances lie in range.
-use mathlib.Core.Path.{_≡_, refl, sym, _∙_, subst}
+use mathlib.Core.Path.{_≡_, refl, sym, subst}
 use mathlib.Core.List.{List, [], _∷_, map}
 use Prim.Native.Nat.{ℕ, zero, suc}
-use native.Mathlib.Omega.{arith}
-use lib.ListN.{length, getD}
+use lib.ListN.{getD}
 use Rattle.std.specs.declared.option.Option.{Option}
 use Rattle.std.specs.declared.option.Option.the-variants.{None, Some}
 use Rattle.definitions.specs.Lists.{at}
 use Rattle.definitions.specs.Alg.{Alg, Lawful}
-use Rattle.definitions.specs.Systems.{System, Term}
-use Rattle.definitions.specs.Values.{known, valueOf}
+use Rattle.definitions.specs.Systems.{System}
 use Rattle.definitions.specs.Fits.{SystemFits}
 use Rattle.definitions.specs.Truth.{Instance}
 use Rattle.definitions.specs.Boolean.{vars, form}

@@ -1,27 +1,27 @@
 -- The variables that expanding makes have the truths of their instances.
-use mathlib.Core.Path.{_≡_, refl, sym, _∙_, ap, ap₂, subst, fun-ext}
+use mathlib.Core.Path.{_≡_, refl, sym, _∙_, ap, subst}
 use mathlib.Core.Bool.{Bool, true, false, _&&_, true≢false, false≢true}
-use mathlib.Core.List.{List, [], _∷_, _++_, map}
+use mathlib.Core.List.{List, [], _∷_, map}
 use Prim.Native.Nat.{ℕ, zero, suc, _+_, _<_, _≤_}
 use native.Mathlib.Omega.{arith}
-use native.Mathlib.Nat.{le-refl, zero-add}
-use lib.Dec.{eqb, leb}
+use native.Mathlib.Nat.{zero-add}
+use lib.Dec.{eqb}
 use lib.ListN.{length}
-use Rattle.std.proofs.shelf.Tests.{eqb-true, leb-true}
+use Rattle.std.proofs.shelf.Tests.{eqb-true}
 use Rattle.std.specs.declared.option.Option.{Option}
 use Rattle.std.specs.declared.option.Option.the-variants.{None, Some}
-use Rattle.definitions.specs.Lists.{at, bind, some, keep, from, upTo, mapFrom}
+use Rattle.definitions.specs.Lists.{at, bind, some, keep, from, mapFrom}
 use Rattle.definitions.specs.Alg.{Alg, Lawful, within}
-use Rattle.definitions.specs.Solution.{Sign, least, greatest, Block, solved}
+use Rattle.definitions.specs.Solution.{Sign}
 use Rattle.definitions.specs.Systems.{Equation, System}
-use Rattle.definitions.specs.Order.{Below, Monotone, Enough}
+use Rattle.definitions.specs.Order.{Below, Monotone}
 use Rattle.definitions.specs.Order as order
 use Rattle.fixpoint.specs.Laws.{Agree, Matched}
 use Rattle.definitions.specs.Truth.{Instance, sizesOf, blockOf, body, truths, verdict}
-use Rattle.definitions.specs.Boolean.{Form, said, vars, form, numbering, numberIn, mostInstances, Variable, signAt, variableOf, expanded, rankOf, signOfRank, hasRank, rankBlock, bodyAt, usedRanks}
+use Rattle.definitions.specs.Boolean.{vars, form, numberIn, Variable, signAt, variableOf, rankOf, signOfRank, hasRank, rankBlock, bodyAt, usedRanks}
 use Rattle.definitions.specs.Fits.{Every, SystemFits}
 use Rattle.definitions.specs.Reach.{ReachedInstance}
-use Rattle.theorems.specs.ExpandLaws.{variableTruths, Expands, Variables-are-reached-instances}
+use Rattle.theorems.specs.ExpandLaws.{variableTruths, Expands}
 use Rattle.theorems.proofs.Listing.{none-some, some-same, at-map, every-at, every-mapped, every-of, every-with}
 use Rattle.fixpoint.proofs.Transfer.{transfer}
 use Rattle.theorems.proofs.Forms.{form-said, said-mono, said-renamed, said-agree}
@@ -29,8 +29,7 @@ use Rattle.fixpoint.proofs.Truths.{implies}
 use Rattle.theorems.proofs.Monotone.{body-mono}
 use Rattle.theorems.proofs.Enough.{blocks-enough, ranks-enough}
 use Rattle.theorems.specs.PassLaws.{InRange}
-use Rattle.theorems.proofs.Tokens.{start-fits, tokens-fit}
-use Rattle.theorems.proofs.Numbers.{Has, Numbering, complete, all-reached, number-at, every-has}
+use Rattle.theorems.proofs.Numbers.{Has, Numbering, all-reached, number-at}
 
 pub some-at : {A : Type 0} (p : A → Bool) (l : List A) (j : ℕ) (x : A) → at l j ≡ Some x → p x ≡ true → some p l ≡ true
 some-at p [] j x e h = none-some x e

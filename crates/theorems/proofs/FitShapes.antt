@@ -1,15 +1,14 @@
 -- What fits has the right shape.
-use Prim.Native.Nat.{ℕ, zero, suc, _+_}
-use mathlib.Core.Path.{_≡_, refl, sym, _∙_, ap, ap₂, subst}
+use Prim.Native.Nat.{ℕ, suc}
+use mathlib.Core.Path.{_≡_, refl, _∙_, ap}
 use mathlib.Core.List.{List, [], _∷_, map}
 use lib.ListN.{length}
-use Rattle.std.specs.declared.option.Option.{Option}
-use Rattle.std.specs.declared.option.Option.the-variants.{None, Some}
+use Rattle.std.specs.declared.option.Option.the-variants.{Some}
 use Rattle.definitions.specs.Lists.{at}
 use Rattle.definitions.specs.Alg.{Alg}
-use Rattle.definitions.specs.Systems.{Term, Occurrence, Clause, Equation, System}
+use Rattle.definitions.specs.Systems.{Term, Equation, System}
 use Rattle.definitions.specs.ReadSystem.{Scope, Header, scope}
-use Rattle.definitions.specs.Fits.{Every, headerOf, TermsFit, ValuesFit, OccurrenceFits, ClauseFits, BodyFits, SystemFits}
+use Rattle.definitions.specs.Fits.{headerOf, TermsFit, ValuesFit, SystemFits}
 use Rattle.theorems.specs.KnowledgeLaws.{arities, Shaped}
 use Rattle.theorems.proofs.Listing.{every-map, at-map-some, at-mapped}
 

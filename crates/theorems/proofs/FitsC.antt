@@ -1,8 +1,8 @@
 -- What the pass C writes fits.
 use Prim.Native.Nat.{ℕ, zero, suc, _+_, _<_, _≤_}
-use mathlib.Core.Path.{_≡_, refl, sym, _∙_, ap, ap₂, subst, subst₂}
-use mathlib.Core.Bool.{Bool, true, false, true≢false, false≢true, not as flip}
-use mathlib.Core.List.{List, [], _∷_, _++_, map}
+use mathlib.Core.Path.{_≡_, refl, sym, _∙_, ap, subst, subst₂}
+use mathlib.Core.Bool.{Bool, true, false, not as flip}
+use mathlib.Core.List.{List, [], _∷_, map}
 use native.Mathlib.Omega.{arith}
 use native.Mathlib.Nat.{zero-add}
 use lib.Dec.{eqb}
@@ -11,13 +11,13 @@ use Rattle.std.specs.declared.option.Option.{Option}
 use Rattle.std.specs.declared.option.Option.the-variants.{None, Some}
 use Rattle.definitions.specs.Lists.{at, flat, is-some, mapFrom, strike, place, times}
 use Rattle.definitions.specs.Alg.{Alg, Lawful}
-use Rattle.definitions.specs.Systems.{Kind, parameter, variable, value, operation, not, and, or, equal, Term, node, none, Quantified, Occurrence, Clause, Equation, System}
+use Rattle.definitions.specs.Systems.{Kind, parameter, value, Term, node, none, Occurrence, Clause, Equation, System}
 use Rattle.definitions.specs.ReadSystem.{Scope, Header, scope}
 use Rattle.definitions.specs.Values.{known, isFalse}
-use Rattle.definitions.specs.Terms.{truthTerm, onParameter, replaced, onOccurrence, onClause, cutEquation}
+use Rattle.definitions.specs.Terms.{onParameter, replaced, onOccurrence, onClause, cutEquation}
 use Rattle.definitions.specs.Fits.{Every, Fits, fit-parameter, fit-value, TermsFit, ValuesFit, headerOf, SortFits, HeaderFits, OccurrenceFits, ClauseFits, BodyFits, SystemFits}
 use Rattle.definitions.specs.Constants.{Known, Knowledge, Brought, agreed, agreedAll, taken, learnt, learntAll, clauseBrings, equationBrings, allBring, brought, unreached, height, leastKnowledge, kindFor, inserted, unknownOf, passC}
-use Rattle.theorems.proofs.Listing.{every-append, every-map, some-same, none-some, getD-at, at-mapFrom, mapFrom-twice, map-twice, every-mapped, every-at, at-map-some, at-mapped, strike-short, mapFrom-long, every-unmapped}
+use Rattle.theorems.proofs.Listing.{every-append, every-map, some-same, none-some, getD-at, at-mapFrom, mapFrom-twice, map-twice, every-mapped, at-map-some, at-mapped, strike-short, mapFrom-long, every-unmapped}
 use Rattle.theorems.proofs.Ranges.{InSort, known-low}
 use Rattle.theorems.proofs.Cut.{strike-map}
 use Rattle.theorems.proofs.Refit.{replaced-fits, replaced-twice, strike-at, place-low, strike-every, strike-values, strike-terms, every-mapFrom, value-fits}

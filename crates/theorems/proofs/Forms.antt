@@ -1,17 +1,16 @@
 -- What Boolean bodies say: what the instance's body says, monotone, and by their variables alone.
 use Rattle.fixpoint.proofs.Truths.{implied}
-use mathlib.Core.Path.{_≡_, refl, sym, _∙_, ap, ap₂, subst, fun-ext}
-use mathlib.Core.Bool.{Bool, true, false, true≢false, false≢true}
+use mathlib.Core.Path.{_≡_, refl, _∙_, ap, ap₂, fun-ext}
+use mathlib.Core.Bool.{Bool, true, false, false≢true}
 use mathlib.Core.List.{List, [], _∷_, _++_, map}
-use Prim.Native.Nat.{ℕ, zero, suc, _+_, _<_, _≤_}
-use native.Mathlib.Omega.{arith}
+use Prim.Native.Nat.{ℕ, _+_}
 use Rattle.std.specs.declared.option.Option.{Option}
 use Rattle.std.specs.declared.option.Option.the-variants.{None, Some}
-use Rattle.definitions.specs.Lists.{at, each, some, keep, from, upTo}
+use Rattle.definitions.specs.Lists.{at, each, some, keep, upTo}
 use Rattle.definitions.specs.Alg.{Alg}
-use Rattle.definitions.specs.Systems.{Quantifier, exists, forall, Quantified, Occurrence, Clause, Equation, System}
+use Rattle.definitions.specs.Systems.{Quantifier, exists, forall, Quantified, Clause, Equation, System}
 use Rattle.definitions.specs.Values.{holds}
-use Rattle.definitions.specs.Order.{Below, Monotone}
+use Rattle.definitions.specs.Order.{Below}
 use Rattle.definitions.specs.Order as order
 use Rattle.definitions.specs.Truth.{Instance, sizeOf, ranging, under, meant, clauseHolds, insideHolds, equationHolds, body}
 use Rattle.definitions.specs.Boolean.{Form, known, all, any, var, Forms, nil, cons, forms, said, allSaid, anySaid, vars, varsAll, renamed, renamedAll, over, spread, allOf, clauseForm, insideForm, equationForm, form}

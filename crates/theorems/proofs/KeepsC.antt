@@ -1,16 +1,14 @@
 -- The pass C keeps the verdict.
-use Prim.Native.Nat.{ℕ, zero, suc, _+_, _<_}
-use mathlib.Core.Path.{_≡_, refl, sym, _∙_, ap, ap₂, subst, subst₂}
-use mathlib.Core.Bool.{Bool, true, false, _&&_, true≢false, false≢true, not as flip}
-use mathlib.Core.List.{List, [], _∷_, _++_, map}
+use Prim.Native.Nat.{ℕ, zero, suc, _+_}
+use mathlib.Core.Path.{_≡_, refl, sym, _∙_, ap, subst, subst₂}
+use mathlib.Core.Bool.{Bool, true, false, not as flip}
+use mathlib.Core.List.{List, [], _∷_, map}
 use native.Mathlib.Omega.{arith}
 use native.Mathlib.Nat.{zero-add}
-use lib.Dec.{eqb, ltb}
-use Rattle.std.proofs.shelf.Tests.{and-parts}
 use lib.ListN.{length, getD, length-map}
 use Rattle.std.specs.declared.option.Option.{Option}
 use Rattle.std.specs.declared.option.Option.the-variants.{None, Some}
-use Rattle.definitions.specs.Lists.{at, flat, is-some, mapFrom, strike, place, each, some}
+use Rattle.definitions.specs.Lists.{at, flat, is-some, mapFrom, strike, place}
 use Rattle.definitions.specs.Alg.{Alg, Lawful, within}
 use Rattle.definitions.specs.Systems.{Kind, parameter, variable, value, operation, not, and, or, equal, Term, Quantified, Occurrence, Clause, Equation, System}
 use Rattle.definitions.specs.ReadSystem.{Scope, Header, scope}
@@ -20,13 +18,13 @@ use Rattle.definitions.specs.Fits.{Every, Fits, TermsFit, headerOf, OccurrenceF
 use Rattle.definitions.specs.Truth.{Instance, sizeOf, sizesOf, meant, clauseHolds, insideHolds, equationHolds, body, blockOf, truths, verdict}
 use Rattle.definitions.specs.Constants.{Known, Knowledge, clauseBrings, equationBrings, allBring, brought, leastKnowledge, kindFor, inserted, unknownOf, passC}
 use Rattle.fixpoint.specs.Laws.{Agree, Matched}
-use Rattle.theorems.proofs.Knows.{Under, same, unknown, Unders, getD-under, trans-unders, Met, All, to-all, all-left, all-right}
+use Rattle.theorems.proofs.Knows.{Unders, getD-under, trans-unders, Met, All, to-all, all-left, all-right}
 use Rattle.theorems.proofs.Stable.{stands}
-use Rattle.theorems.proofs.Listing.{every-map, each-map, some-map, some-same, none-some, getD-at, at-mapFrom, mapFrom-twice, map-twice, every-mapped, every-at, every-two, at-map-some, at-mapped}
+use Rattle.theorems.proofs.Listing.{every-map, each-map, some-map, some-same, none-some, getD-at, at-mapFrom, mapFrom-twice, map-twice, every-mapped, every-at, every-two, at-map-some}
 use Rattle.theorems.proofs.Monotone.{equals, each-is, some-is, under-is, clause-is, inside-is}
 use Rattle.theorems.proofs.Ranges.{arguments-low, arguments-there, values-low}
 use Rattle.theorems.proofs.Agrees.{arguments-under, holds-not-false}
-use Rattle.theorems.proofs.Cut.{OnKinds, OnParameters, on-map, on-mapped, fits-scoped, terms-fit, strike-map, strike-within, renumber-value, cut-values, insert-value, same-values, within-long, unders-long}
+use Rattle.theorems.proofs.Cut.{OnParameters, on-map, on-mapped, fits-scoped, terms-fit, strike-map, strike-within, renumber-value, cut-values, insert-value, same-values, within-long, unders-long}
 use Rattle.theorems.proofs.Blocks.{blocks-match, both-inside, truths-agree}
 use Rattle.theorems.proofs.FitShapes.{fits-shaped}
 

@@ -1,23 +1,22 @@
 -- Removing parameters that nothing kept depends on keeps the verdict.
-use Prim.Native.Nat.{ℕ, zero, suc, _+_, _<_}
+use Prim.Native.Nat.{ℕ, _+_}
 use mathlib.Core.Path.{_≡_, refl, sym, _∙_, ap, ap₂, subst, subst₂}
-use mathlib.Core.Bool.{Bool, true, false, _&&_}
-use mathlib.Core.List.{List, [], _∷_, _++_, map}
+use mathlib.Core.Bool.{Bool, true, false}
+use mathlib.Core.List.{List, [], _∷_, map}
 use native.Mathlib.Nat.{zero-add}
-use lib.ListN.{length, getD}
-use Rattle.std.specs.declared.option.Option.{Option}
-use Rattle.std.specs.declared.option.Option.the-variants.{None, Some}
-use Rattle.definitions.specs.Lists.{at, mapFrom, strike, place, each, some, or-else}
+use lib.ListN.{getD}
+use Rattle.std.specs.declared.option.Option.the-variants.{Some}
+use Rattle.definitions.specs.Lists.{at, mapFrom, strike, place, or-else}
 use Rattle.definitions.specs.Alg.{Alg, Lawful, within}
-use Rattle.definitions.specs.Systems.{Kind, parameter, Term, Quantified, Occurrence, Clause, Equation, System}
-use Rattle.definitions.specs.ReadSystem.{Scope, Header, scope}
-use Rattle.definitions.specs.Values.{isTrue, holds, valueOf, valuesOf}
+use Rattle.definitions.specs.Systems.{parameter, Term, Quantified, Occurrence, Clause, Equation, System}
+use Rattle.definitions.specs.ReadSystem.{Header, scope}
+use Rattle.definitions.specs.Values.{isTrue, valueOf, valuesOf}
 use Rattle.definitions.specs.Terms.{replaced, onOccurrence, onClause, cutEquation, cut}
 use Rattle.definitions.specs.Fits.{Every, headerOf, OccurrenceFits, ClauseFits, BodyFits, SystemFits}
 use Rattle.definitions.specs.Truth.{Instance, sizeOf, sizesOf, meant, clauseHolds, insideHolds, equationHolds, body, blockOf, truths, verdict}
 use Rattle.fixpoint.specs.Laws.{Agree, Matched}
 use Rattle.theorems.specs.PassLaws.{InRange, left}
-use Rattle.theorems.proofs.Listing.{every-map, each-map, some-map, some-same, none-some, at-mapFrom, map-twice, every-at, every-two, at-map-some}
+use Rattle.theorems.proofs.Listing.{every-map, each-map, some-map, some-same, at-mapFrom, map-twice, every-at, every-two, at-map-some}
 use Rattle.theorems.proofs.Monotone.{equals, each-is, some-is, under-is, clause-is, inside-is}
 use Rattle.theorems.proofs.Ranges.{arguments-low, values-low}
 use Rattle.theorems.proofs.Cut.{OnKinds, OnParameters, strike-map, strike-within, renumber-value}

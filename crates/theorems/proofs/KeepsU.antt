@@ -1,24 +1,23 @@
 -- The pass U keeps the verdict, and what it writes fits.
 use Prim.Native.Nat.{ℕ, zero, suc, _+_, _<_, _≤_}
-use mathlib.Core.Path.{_≡_, refl, sym, _∙_, ap, ap₂, subst, subst₂}
+use mathlib.Core.Path.{_≡_, refl, sym, _∙_, ap, subst}
 use mathlib.Core.Bool.{Bool, true, false, _&&_, _||_, true≢false, false≢true}
-use mathlib.Core.List.{List, [], _∷_, _++_, map, List·Memᴰ}
+use mathlib.Core.List.{List, [], _∷_, map}
 use native.Mathlib.Omega.{arith}
 use native.Mathlib.Nat.{zero-add}
 use lib.Dec.{eqb}
 use lib.ListN.{length, getD, length-map}
 use Rattle.std.proofs.shelf.Tests.{or-left, or-right, eq-eqb, eqb-true, ne-eqb}
-use Rattle.std.specs.declared.option.Option.{Option}
-use Rattle.std.specs.declared.option.Option.the-variants.{None, Some}
-use Rattle.definitions.specs.Lists.{at, flat, mapFrom, strike, place, each, some, from, upTo, times}
+use Rattle.std.specs.declared.option.Option.the-variants.{Some}
+use Rattle.definitions.specs.Lists.{at, mapFrom, strike, place, some, upTo}
 use Rattle.definitions.specs.Alg.{Alg, within}
 use Rattle.definitions.specs.Systems.{Occurrence, Clause, Equation, System}
-use Rattle.definitions.specs.ReadSystem.{Scope, Header, scope}
+use Rattle.definitions.specs.ReadSystem.{Header, scope}
 use Rattle.definitions.specs.Fits.{Every, headerOf, HeaderFits, OccurrenceFits, ClauseFits, BodyFits, SystemFits}
 use Rattle.definitions.specs.Truth.{Instance, sizesOf, meant, clauseHolds, insideHolds, equationHolds, body, blockOf, truths, verdict}
 use Rattle.definitions.specs.Passes.{occurrences, calls, chained, reachable, renamed, passU}
 use Rattle.fixpoint.specs.Laws.{Agree, Matched}
-use Rattle.theorems.proofs.Listing.{every-map, every-of, each-map, some-map, some-same, none-some, every-mapped, every-at, every-two, at-map-some, at-mapped, strike-short, every-unmapped, from-long, at-lt}
+use Rattle.theorems.proofs.Listing.{every-map, each-map, some-map, some-same, none-some, every-mapped, every-at, every-two, at-map-some, at-mapped, strike-short, every-unmapped, from-long, at-lt}
 use Rattle.theorems.proofs.Monotone.{equals, each-is, some-is, under-is, clause-is, inside-is}
 use Rattle.theorems.proofs.Blocks.{truths-agree}
 use Rattle.theorems.proofs.Refit.{strike-at, place-low, strike-every}

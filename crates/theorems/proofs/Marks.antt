@@ -1,29 +1,26 @@
 -- The parameters that reach a mark are closed: what they depend on is among them.
-use Prim.Native.Nat.{ℕ, zero, suc, _+_, _*_, _<_, _≤_}
-use mathlib.Core.Path.{_≡_, refl, sym, _∙_, ap, ap₂, subst}
-use mathlib.Core.Bool.{Bool, true, false, _||_, le, true≢false, false≢true}
+use Prim.Native.Nat.{ℕ, zero, suc, _+_, _<_, _≤_}
+use mathlib.Core.Path.{_≡_, refl, sym, _∙_, ap, ap₂}
+use mathlib.Core.Bool.{Bool, true, false, _||_, false≢true}
 use mathlib.Core.List.{List, [], _∷_, _++_, map, List·Memᴰ, List·Memᴰ·head, List·Memᴰ·tail, Memᴰ·map, Memᴰ·cast, Memᴰ·append-left, Memᴰ·append-right}
-use mathlib.Core.Logic.{_⊎_, inl, inr}
-use native.Mathlib.Nat.{zero-add, one-mul, le-refl}
+use native.Mathlib.Nat.{zero-add}
 use native.Mathlib.Decide.{decLe}
 use native.Mathlib.Omega.{arith}
-use lib.Dec.{eqb}
 use lib.ListN.{length, getD, length-append, length-map}
-use Rattle.std.proofs.shelf.Tests.{or-left, or-right, or-cases, eq-eqb}
-use Rattle.std.specs.declared.option.Option.{Option}
-use Rattle.std.specs.declared.option.Option.the-variants.{None, Some}
-use Rattle.definitions.specs.Lists.{at, flat, each, some, sum, times, from, upTo, strike}
+use Rattle.std.proofs.shelf.Tests.{or-left, or-right, eq-eqb}
+use Rattle.std.specs.declared.option.Option.the-variants.{Some}
+use Rattle.definitions.specs.Lists.{at, flat, some, sum, from, upTo, strike}
 use Rattle.definitions.specs.Alg.{Alg}
-use Rattle.definitions.specs.Systems.{Kind, parameter, variable, value, operation, not, and, or, equal, Term, Terms, node, none, more, fold, folds, Occurrence, Clause, Equation, System}
+use Rattle.definitions.specs.Systems.{Kind, parameter, variable, value, operation, not, and, or, equal, Term, Terms, node, none, more, folds, Occurrence, Clause, Equation, System}
 use Rattle.definitions.specs.Passes.{isParameter, occursIn, marked, occurrences, feeds, marks, needed}
-use Rattle.definitions.specs.Fits.{Every, headerOf, BodyFits, ClauseFits, OccurrenceFits, SystemFits}
+use Rattle.definitions.specs.Fits.{Every, headerOf, BodyFits, SystemFits}
 use Rattle.definitions.specs.ReadSystem.{scope}
 use Rattle.fixpoint.proofs.Rounds.{pick}
 use Rattle.theorems.proofs.Closing.{closes}
-use Rattle.theorems.proofs.Listing.{every-map, every-of, some-same, none-some, getD-at, every-at, every-two, at-mapped, at-lt, from-long}
+use Rattle.theorems.proofs.Listing.{every-map, every-of, getD-at, every-at, every-two, at-mapped, at-lt, from-long}
 use Rattle.theorems.proofs.Monotone.{orders, some-is}
 use Rattle.theorems.proofs.Cut.{OnKinds, OnAll, OnParameters, fits-scoped, terms-fit}
-use Rattle.theorems.proofs.KeepsCut.{Keeps, ClosedClause, Closed}
+use Rattle.theorems.proofs.KeepsCut.{Keeps, Closed}
 use Rattle.theorems.proofs.Refit.{strike-every}
 
 -- some and or

@@ -1,7 +1,7 @@
 -- Bodies compared part by part, under a relation of truths: equal where the parts are, and monotone in the assignment.
 use Rattle.fixpoint.proofs.Truths.{implies, implied}
-use Prim.Native.Nat.{ℕ, zero, suc, _+_, _<_, _≤_}
-use mathlib.Core.Path.{_≡_, refl, sym, _∙_, ap, ap₂, subst, subst₂}
+use Prim.Native.Nat.{ℕ, zero, suc, _+_, _<_}
+use mathlib.Core.Path.{_≡_, refl, sym, ap, ap₂, subst}
 use mathlib.Core.Bool.{Bool, true, false, le, _&&_, true≢false, false≢true}
 use mathlib.Core.List.{List, [], _∷_, _++_, map, append-assoc}
 use native.Mathlib.Omega.{arith}
@@ -10,7 +10,7 @@ use Rattle.std.specs.declared.option.Option.{Option}
 use Rattle.std.specs.declared.option.Option.the-variants.{None, Some}
 use Rattle.definitions.specs.Lists.{at, each, some, from, upTo}
 use Rattle.definitions.specs.Alg.{Alg, within}
-use Rattle.definitions.specs.Systems.{Quantifier, exists, forall, Quantified, Occurrence, Clause, Equation, System}
+use Rattle.definitions.specs.Systems.{Quantifier, exists, forall, Quantified, Clause, Equation, System}
 use Rattle.definitions.specs.Values.{holds}
 use Rattle.definitions.specs.Truth.{Instance, sizeOf, ranging, under, meant, clauseHolds, insideHolds, equationHolds, body}
 use Rattle.definitions.specs.Fits.{Every}

@@ -6,7 +6,6 @@ use mathlib.Core.Logic.{_⊎_, inl, inr}
 use Prim.Native.Nat.{ℕ, zero, suc, _+_, _<_, _≤_}
 use native.Mathlib.Omega.{arith}
 use native.Mathlib.Decide.{decLt}
-use native.Mathlib.Nat.{le-refl}
 use lib.Dec.{eqb}
 use lib.ListN.{length, drop}
 use Rattle.std.proofs.shelf.Tests.{eqb-true, eq-eqb}
@@ -16,7 +15,7 @@ use Rattle.definitions.specs.Lists.{at, same, some, flat}
 use Rattle.definitions.specs.Alg.{Alg}
 use Rattle.definitions.specs.Systems.{System}
 use Rattle.definitions.specs.Truth.{Instance}
-use Rattle.definitions.specs.Boolean.{vars, form, sameInstance, come, comes, numbering, numberIn, mostInstances}
+use Rattle.definitions.specs.Boolean.{vars, form, sameInstance, come, comes, numberIn}
 use Rattle.definitions.specs.Fits.{Every}
 use Rattle.definitions.specs.Reach.{ReachedInstance}
 use Rattle.theorems.proofs.Listing.{none-some, some-same, every-at, every-append, every-with, and-left, and-right, at-lt}

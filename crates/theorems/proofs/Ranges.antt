@@ -13,7 +13,7 @@ use Rattle.std.specs.declared.option.Option.the-variants.{None, Some}
 use Rattle.definitions.specs.Lists.{at, bind, whole, or-else}
 use Rattle.definitions.specs.Alg.{Alg, Lawful, within}
 use Rattle.definitions.specs.Algebras.{first, second, truth}
-use Rattle.definitions.specs.Systems.{Kind, parameter, variable, value, operation, not, and, or, equal, Term, Terms, node, none, more, fold, folds}
+use Rattle.definitions.specs.Systems.{value, Term, Terms, folds}
 use Rattle.definitions.specs.ReadSystem.{Scope}
 use Rattle.definitions.specs.Values.{known, kindKnown, valueOf, valuesOf, both, either, isTrue, isFalse}
 use Rattle.definitions.specs.Truth.{sizeOf}

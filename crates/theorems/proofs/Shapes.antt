@@ -1,26 +1,25 @@
 -- What expanding makes fits a Boolean file.
-use mathlib.Core.Path.{_≡_, refl, sym, _∙_, ap, ap₂, subst}
+use mathlib.Core.Path.{_≡_, refl, sym, _∙_, ap, subst}
 use mathlib.Core.Bool.{Bool, true, false}
 use mathlib.Core.List.{List, [], _∷_, _++_, map}
-use Prim.Native.Nat.{ℕ, zero, suc, _+_, _-_, _<_, _≤_}
-use native.Mathlib.Nat.{le-refl}
+use Prim.Native.Nat.{ℕ, suc, _+_, _-_, _<_, _≤_}
 use native.Mathlib.Omega.{arith}
 use lib.ListN.{length, length-map}
 use Rattle.std.specs.declared.option.Option.{Option}
-use Rattle.std.specs.declared.option.Option.the-variants.{None, Some}
-use Rattle.definitions.specs.Lists.{at, keep, from, upTo, or-else}
+use Rattle.std.specs.declared.option.Option.the-variants.{Some}
+use Rattle.definitions.specs.Lists.{at, keep, upTo, or-else}
 use Rattle.definitions.specs.Alg.{Alg, Lawful}
-use Rattle.definitions.specs.Systems.{Quantifier, exists, forall, Quantified, Occurrence, Clause, Equation, System}
+use Rattle.definitions.specs.Systems.{Quantifier, exists, forall, Quantified, Clause, Equation, System}
 use Rattle.definitions.specs.ReadSystem.{scope}
 use Rattle.definitions.specs.Values.{holds}
-use Rattle.definitions.specs.Truth.{Instance, sizeOf, meant}
+use Rattle.definitions.specs.Truth.{Instance, meant}
 use Rattle.definitions.specs.Boolean.{Form, known, all, any, var, Forms, nil, cons, forms, count, vars, varsAll, renamed, renamedAll, over, spread, allOf, clauseForm, insideForm, equationForm, form, numberIn, Variable, signAt, variableOf}
-use Rattle.definitions.specs.Fits.{Every, SortFits, headerOf, ClauseFits, BodyFits, SystemFits}
+use Rattle.definitions.specs.Fits.{Every, SortFits, headerOf, ClauseFits, SystemFits}
 use Rattle.definitions.specs.FileFits.{FormFits, fit-known, fit-all, fit-any, fit-var, FormsFit, fit-nil, fit-cons, BooleanFits}
-use Rattle.theorems.proofs.Listing.{none-some, every-at, every-mapped, every-with, every-of, every-keep, every-left, every-right, at-lt, from-long, keep-long}
+use Rattle.theorems.proofs.Listing.{every-at, every-mapped, every-with, every-of, every-keep, every-left, every-right, at-lt, from-long, keep-long}
 use Rattle.theorems.proofs.Ranges.{size-range}
 use Rattle.theorems.specs.PassLaws.{InRange}
-use Rattle.theorems.proofs.Tokens.{header-at, body-at, every-from}
+use Rattle.theorems.proofs.Tokens.{header-at, body-at}
 use Rattle.theorems.proofs.Numbers.{Has, Numbering, number-at, every-has}
 
 -- depth at most d, one to 256 parts in each all and any

@@ -1,20 +1,20 @@
 -- The least knowledge is stable.
-use mathlib.Core.Path.{_≡_, refl, sym, _∙_, ap, ap₂, subst, subst₂}
-use mathlib.Core.Bool.{Bool, true, false, _&&_, _||_, true≢false, false≢true}
-use mathlib.Core.List.{List, [], _∷_, _++_, map}
+use mathlib.Core.Path.{_≡_, refl, sym, _∙_, ap, ap₂, subst}
+use mathlib.Core.Bool.{Bool, true, false}
+use mathlib.Core.List.{List, [], _∷_, map}
 use mathlib.Core.Logic.{_⊎_, inl, inr}
 use Prim.Native.Nat.{ℕ, zero, suc, _+_, _≤_, _<_}
 use native.Mathlib.Omega.{arith}
 use lib.Dec.{eqb}
-use lib.ListN.{length, getD, length-map}
-use Rattle.std.proofs.shelf.Tests.{eqb-true, eq-eqb, cases-lt}
+use lib.ListN.{length, length-map}
+use Rattle.std.proofs.shelf.Tests.{eqb-true, cases-lt}
 use Rattle.std.specs.declared.option.Option.{Option}
 use Rattle.std.specs.declared.option.Option.the-variants.{None, Some}
 use Rattle.definitions.specs.Lists.{at, bind, flat, each, times, sum}
 use Rattle.definitions.specs.Alg.{Alg}
-use Rattle.definitions.specs.Systems.{Term, Occurrence, Clause, Equation, System}
+use Rattle.definitions.specs.Systems.{Occurrence, Clause, Equation, System}
 use Rattle.definitions.specs.Values.{known, isFalse}
-use Rattle.definitions.specs.Constants.{Known, Knowledge, agreed, agreedAll, taken, Brought, clauseBrings, equationBrings, allBring, brought, learnt, learntAll, knownBelow, reachedBelow, stable, unreached, height, leastKnowledge}
+use Rattle.definitions.specs.Constants.{Known, Knowledge, agreed, agreedAll, Brought, clauseBrings, equationBrings, allBring, brought, learnt, learntAll, reachedBelow, stable, unreached, height, leastKnowledge}
 use Rattle.theorems.specs.KnowledgeLaws.{arities, Shaped}
 use Rattle.definitions.specs.Fits.{Every}
 use Rattle.theorems.proofs.Knows.{Under, same, unknown, Unders, Reached, not-yet, already, Belows, Met, All, trans-unders, from-unders}

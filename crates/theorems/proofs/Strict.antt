@@ -10,21 +10,20 @@ use borrow.Author.Tests.{eqb-true}
 use Rattle.std.specs.declared.option.Option.{Option}
 use Rattle.std.specs.declared.option.Option.the-variants.{None, Some}
 use Rattle.definitions.specs.Lists.{at, sum, mapFrom, strike, place, keep, is-some}
-use Rattle.definitions.specs.Alg.{Alg, Lawful}
-use Rattle.definitions.specs.Systems.{Kind, parameter, variable, value, operation, not, and, or, equal, Term, Terms, node, none, more, terms, term, fold, folds, Quantified, Occurrence, Clause, Equation, System}
-use Rattle.definitions.specs.Solution.{Sign}
+use Rattle.definitions.specs.Alg.{Alg}
+use Rattle.definitions.specs.Systems.{Kind, parameter, variable, value, operation, not, and, or, equal, Term, Terms, node, none, more, terms, term, folds, Quantified, Occurrence, Clause, Equation, System}
 use Rattle.definitions.specs.Values.{known, isFalse}
 use Rattle.definitions.specs.ReadSystem.{Scope, Header, scope}
-use Rattle.definitions.specs.Fits.{Fits, FitsArgs, fit-parameter, fit-variable, fit-value, fit-operation, fit-not, fit-and, fit-or, fit-equal, fit-none, fit-more, Every, TermsFit, OccurrenceFits, ClauseFits, BodyFits, SystemFits, headerOf}
+use Rattle.definitions.specs.Fits.{Fits, FitsArgs, fit-parameter, fit-variable, fit-value, fit-operation, fit-not, fit-and, fit-or, fit-equal, fit-none, fit-more, OccurrenceFits, ClauseFits, BodyFits, SystemFits, headerOf}
 use Rattle.definitions.specs.Terms.{onParameter, replaced, truthTerm, onOccurrence, onClause, cutEquation, cut}
-use Rattle.definitions.specs.Constants.{Known, Knowledge, kindFor, bare, inserted, unknownOf, passC, leastKnowledge}
+use Rattle.definitions.specs.Constants.{Known, kindFor, bare, inserted, unknownOf, passC, leastKnowledge}
 use Rattle.definitions.specs.Passes.{folded, foldeds, foldedAs, foldedEquation, passF, needed, passR, renamed, reachable, passU}
 use Rattle.definitions.specs.Settle.{kindWeight, termWeight, occurrenceWeight, clauseWeight, falseTerm, fullness, equationWeight, weight}
-use Rattle.theorems.proofs.Listing.{some-same, none-some, every-map, every-at, every-two, at-map-some, getD-at, at-mapFrom, strike-short, at-lt}
+use Rattle.theorems.proofs.Listing.{every-map, every-at, every-two, at-map-some, getD-at, at-mapFrom, at-lt}
 use Rattle.theorems.proofs.FitShapes.{values-long, terms-long}
 use Rattle.theorems.proofs.Cut.{OnKinds, OnAll, OnParameters, on-map, fits-scoped, terms-fit}
 use Rattle.theorems.proofs.KeepsC.{inserted-sorts}
-use Rattle.theorems.proofs.Weights.{W, map-le, from-le, strike-le, keep-le, replaced-le, full-le, full-one, full-two, clause-le, occurrence-le, cut-le, for-le, inserted-le, renamed-same, folded-le, foldeds-le, full-folded, folded-equation}
+use Rattle.theorems.proofs.Weights.{W, map-le, from-le, strike-le, keep-le, replaced-le, full-le, full-one, clause-le, occurrence-le, cut-le, inserted-le, renamed-same, folded-le, foldeds-le, full-folded, folded-equation}
 use Rattle.theorems.proofs.Tight.{map-tight, map-same, zero-plus, tight-0, same-0, Full, full-strike, full-place, full-of, full-weight, nothing, no-length, keep-tight}
 
 -- terms whose parameters stay

@@ -1,22 +1,22 @@
 -- The tokens of a body of an instance in range name instances in range.
-use mathlib.Core.Path.{_≡_, refl, sym, _∙_, ap, ap₂, subst}
+use mathlib.Core.Path.{_≡_, refl, sym, _∙_, subst}
 use mathlib.Core.Bool.{Bool, true, false}
 use mathlib.Core.List.{List, [], _∷_, _++_, map, append-nil, append-assoc}
-use Prim.Native.Nat.{ℕ, zero, suc, _+_, _<_, _≤_}
+use Prim.Native.Nat.{ℕ, zero, suc, _+_, _<_}
 use native.Mathlib.Omega.{arith}
 use Rattle.std.specs.declared.option.Option.{Option}
-use Rattle.std.specs.declared.option.Option.the-variants.{None, Some}
-use Rattle.definitions.specs.Lists.{at, bind, or-else, keep, from, upTo}
+use Rattle.std.specs.declared.option.Option.the-variants.{Some}
+use Rattle.definitions.specs.Lists.{at, or-else, keep, from, upTo}
 use Rattle.definitions.specs.Alg.{Alg, Lawful}
 use Rattle.definitions.specs.Systems.{Quantifier, exists, forall, Quantified, Occurrence, Clause, Equation, System}
-use Rattle.definitions.specs.ReadSystem.{Header, Scope, scope}
+use Rattle.definitions.specs.ReadSystem.{Header, scope}
 use Rattle.definitions.specs.Values.{holds}
-use Rattle.definitions.specs.Truth.{Instance, sizeOf, meant}
-use Rattle.definitions.specs.Boolean.{Form, known, all, any, var, Forms, nil, cons, forms, vars, varsAll, over, spread, allOf, clauseForm, insideForm, equationForm, form}
+use Rattle.definitions.specs.Truth.{Instance, meant}
+use Rattle.definitions.specs.Boolean.{Form, known, var, forms, vars, varsAll, over, spread, allOf, clauseForm, insideForm, equationForm, form}
 use Rattle.definitions.specs.Fits.{Every, SortFits, HeaderFits, headerOf, OccurrenceFits, ClauseFits, BodyFits, SystemFits}
 use Rattle.theorems.specs.PassLaws.{InRange}
 use Rattle.theorems.specs.Evaluation.{Ranges}
-use Rattle.theorems.proofs.Listing.{none-some, some-same, at-map, every-at, every-unmapped, every-mapped, every-with, every-append, every-keep, at-map-some}
+use Rattle.theorems.proofs.Listing.{every-at, every-unmapped, every-mapped, every-with, every-append, every-keep, at-map-some}
 use Rattle.theorems.proofs.Ranges.{ranges-snoc, values-low, arguments-low}
 
 module _ {I : Type 0} (P : I → Type 0) where

@@ -1,19 +1,18 @@
 -- No pass raises the weight of a system.
-use mathlib.Core.Path.{_≡_, refl, sym, _∙_, ap, subst}
+use mathlib.Core.Path.{_≡_, refl}
 use mathlib.Core.Bool.{Bool, true, false, not as flip}
-use mathlib.Core.List.{List, [], _∷_, _++_, map}
-use Prim.Native.Nat.{ℕ, zero, suc, _+_, _≤_}
+use mathlib.Core.List.{List, [], _∷_, map}
+use Prim.Native.Nat.{ℕ, suc, _+_, _≤_}
 use native.Mathlib.Omega.{arith}
-use lib.Dec.{eqb}
-use lib.ListN.{length, getD}
+use lib.ListN.{getD}
 use Rattle.std.specs.declared.option.Option.{Option}
 use Rattle.std.specs.declared.option.Option.the-variants.{None, Some}
 use Rattle.definitions.specs.Lists.{sum, mapFrom, strike, place, keep}
 use Rattle.definitions.specs.Alg.{Alg}
-use Rattle.definitions.specs.Systems.{Kind, parameter, variable, value, operation, not, and, or, equal, Term, Terms, node, none, more, terms, term, fold, folds, Occurrence, Clause, Equation, System}
+use Rattle.definitions.specs.Systems.{Kind, parameter, variable, value, operation, not, and, or, equal, Term, Terms, node, none, more, terms, term, folds, Occurrence, Clause, Equation, System}
 use Rattle.definitions.specs.Values.{known, isFalse}
-use Rattle.definitions.specs.Terms.{onParameter, replaced, truthTerm, onOccurrence, onClause, cutEquation, cut}
-use Rattle.definitions.specs.Constants.{Known, kindFor, bare, inserted, unknownOf, passC, leastKnowledge}
+use Rattle.definitions.specs.Terms.{onParameter, replaced, onOccurrence, onClause, cutEquation}
+use Rattle.definitions.specs.Constants.{Known, kindFor, inserted, unknownOf, passC, leastKnowledge}
 use Rattle.definitions.specs.Passes.{folded, foldeds, foldedAs, foldedEquation, passF, needed, passR, renamed, reachable, passU}
 use Rattle.definitions.specs.Settle.{kindWeight, termWeight, occurrenceWeight, clauseWeight, falseTerm, fullness, equationWeight, weight}
 use Rattle.theorems.proofs.Listing.{strike-short}

@@ -10,11 +10,11 @@ use Rattle.definitions.specs.Lists.{times, upTo, mapFrom}
 use Rattle.definitions.specs.Alg.{Alg}
 use Rattle.definitions.specs.Algebras.{counting}
 use Rattle.definitions.specs.Solution.{Sign, least, greatest, Block, edge, put, settled}
-use Rattle.definitions.specs.Systems.{Kind, parameter, value, not, Term, term, Occurrence, Clause, Equation, System}
-use Rattle.definitions.specs.Reading.{Reading, got}
+use Rattle.definitions.specs.Systems.{parameter, value, not, Term, term, Clause, Equation, System}
+use Rattle.definitions.specs.Reading.{got}
 use Rattle.definitions.specs.ReadSystem.{reading}
 use Rattle.definitions.specs.Written.{written}
-use Rattle.definitions.specs.Truth.{Instance, body, blockOf, verdict}
+use Rattle.definitions.specs.Truth.{body, blockOf, verdict}
 use Rattle.definitions.specs.Terms.{cut}
 use Rattle.definitions.specs.Constants.{Known, Knowledge, Brought, brought, learntAll, unreached, height, inserted, unknownOf}
 use Rattle.definitions.specs.Passes.{marked}
