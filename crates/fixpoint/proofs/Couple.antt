@@ -1,4 +1,4 @@
--- The transfer with the demand on the bodies kept at the blocks.
+-- The transfer where bodies need to agree only at assignments that give the later blocks back.
 use mathlib.Core.Path.{sym, subst}
 use mathlib.Core.List.{List}
 use Rattle.definitions.specs.Solution.{Block, edge}

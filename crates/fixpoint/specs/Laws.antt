@@ -87,7 +87,7 @@ Transfer-of-tests I J V W = (O : Order V) (P : Order W) (ρ : V → W → Bool) 
 abbrev pub Transfer-of-equals : (I J V : Type 0) → Type 0
 Transfer-of-equals I J V = (O : Order V) (rel : I → J → Bool) → Transfer O O (λ a b. a ≡ b) (λ i j. So (rel i j))
 
--- As `Matched`, with the demand on the bodies kept at each matched pair of blocks: they agree at assignments that agree
+-- As `Matched`, and at each matched pair of blocks the bodies need to agree only at assignments that agree
 -- and that give the blocks behind these back.
 pub data Coupled {I J V W : Type 0} (ρ : V → W → Type 0) (rel : I → J → Type 0) (body : (I → V) → I → V) (body′ : (J → W) → J → W) :
     List (Block I) → List (Block J) → Type 0 where

@@ -1,4 +1,4 @@
--- Expanding keeps the verdict.
+-- Expanding: the file written is read back, its first variable has the verdict, and it is declined exactly where the instances or the bytes are too many.
 use Rattle.faults.specs.declared.ExpandFault.{ExpandFault}
 use Rattle.faults.specs.declared.ExpandFault.the-variants.{Refused}
 use Rattle.faults.specs.declared.Reason.the-variants.{TooManyInstances, BooleanTooLong}

@@ -1,4 +1,4 @@
--- The pass C keeps the verdict.
+-- What the pass C keeps: the truth of every instance of a reached equation that agrees with what is known, so the verdict.
 use Prim.Native.Nat.{ℕ, zero, suc, _+_}
 use mathlib.Core.Path.{_≡_, refl, sym, _∙_, ap, subst, subst₂}
 use mathlib.Core.Bool.{Bool, true, false, not as flip}

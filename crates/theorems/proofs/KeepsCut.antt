@@ -1,4 +1,4 @@
--- Removing parameters that nothing kept depends on keeps the verdict.
+-- Removing parameters that nothing kept depends on keeps the truth of every instance, so the verdict.
 use Prim.Native.Nat.{ℕ, _+_}
 use mathlib.Core.Path.{_≡_, refl, sym, _∙_, ap, ap₂, subst, subst₂}
 use mathlib.Core.Bool.{Bool, true, false}

@@ -1,4 +1,4 @@
--- The pass F keeps the verdict.
+-- The pass F keeps what bodies say and the truth of every instance, so the verdict.
 use Prim.Native.Nat.{ℕ, zero, suc, _+_, _<_, _≤_}
 use mathlib.Core.Path.{_≡_, refl, sym, _∙_, ap, ap₂, fun-ext}
 use mathlib.Core.Bool.{Bool, true, false, _&&_, true≢false, false≢true, not as flip}

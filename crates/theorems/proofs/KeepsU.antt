@@ -1,4 +1,4 @@
--- The pass U keeps the verdict, and what it writes fits.
+-- The pass U keeps the truth of every instance of a reached equation, so the verdict, and what it writes fits.
 use Prim.Native.Nat.{ℕ, zero, suc, _+_, _<_, _≤_}
 use mathlib.Core.Path.{_≡_, refl, sym, _∙_, ap, subst}
 use mathlib.Core.Bool.{Bool, true, false, _&&_, _||_, true≢false, false≢true}
