@@ -1,13 +1,13 @@
 -- What a data algebra means: sorts of finitely many values, and operations on them.
 use mathlib.Core.Path.{_≡_}
 use mathlib.Core.List.{List, [], _∷_, map}
-use mathlib.Core.Bool.{Bool, true, false, cond, _&&_}
+use mathlib.Core.Bool.{Bool, true, false, _&&_}
 use Prim.Native.Nat.{ℕ, _<_, _≤_}
 use lib.Dec.{ltb}
 use lib.ListN.{length, getD}
 use Rattle.std.specs.declared.option.Option.{Option}
 use Rattle.std.specs.declared.option.Option.the-variants.{None, Some}
-use Rattle.definitions.specs.Lists.{at, bind, or-else}
+use Rattle.definitions.specs.Lists.{at, bind}
 
 -- the answers to the questions, none where a number or an argument is out of range
 pub record Alg : Type 0 where

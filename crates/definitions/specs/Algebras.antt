@@ -1,7 +1,7 @@
 -- The counting algebra and the level algebra.
-use mathlib.Core.List.{List, [], _∷_, _++_}
-use mathlib.Core.Bool.{Bool, true, false, cond}
-use Prim.Native.Nat.{ℕ, zero, suc, _+_, _-_, _%_, min}
+use mathlib.Core.List.{List, [], _∷_}
+use mathlib.Core.Bool.{Bool, cond}
+use Prim.Native.Nat.{ℕ, _+_, _-_, _%_, min}
 use lib.Dec.{ltb, leb}
 use lib.ListN.{getD}
 use Rattle.definitions.specs.Lists.{mapFrom, flat}

@@ -1,7 +1,7 @@
 -- What each call answers, and what is held and what stands in the caller's buffer after it, obeyed or declined.
 -- A list of bytes is what a bench holds, and the empty list is nothing.
 use mathlib.Core.Path.{_≡_}
-use mathlib.Core.Bool.{Bool, true, false, _&&_}
+use mathlib.Core.Bool.{true, false, _&&_}
 use mathlib.Core.List.{List, [], _∷_, _++_}
 use Prim.Native.Nat.{ℕ, suc, _<_, _≤_}
 use lib.Dec.{eqb, leb}
@@ -23,7 +23,7 @@ use Rattle.definitions.specs.Systems.{System}
 use Rattle.definitions.specs.Reading.{Reading, got, bad}
 use Rattle.definitions.specs.ReadSystem.{reading}
 use Rattle.definitions.specs.Fits.{Every}
-use Rattle.definitions.specs.Settle.{Pass, Ran, wrote, refused, run, passes, Round, ended, failed, roundBy}
+use Rattle.definitions.specs.Settle.{Pass, Ran, wrote, refused, run, passes, ended, failed, roundBy}
 use Rattle.definitions.specs.Boolean.{Expanded, made, refused as unmade, Variable, booleanReading, solves}
 use Rattle.definitions.specs.Tables.{Table, tableReading}
 

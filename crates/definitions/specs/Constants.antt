@@ -1,14 +1,14 @@
 -- The pass C: what is known of each equation's parameters, and the known ones replaced by value terms and removed.
 use mathlib.Core.List.{List, [], _∷_, _++_, map}
-use mathlib.Core.Bool.{Bool, true, false, _&&_, _||_, not as flip}
-use Prim.Native.Nat.{ℕ, zero, suc, _+_, _≤_}
+use mathlib.Core.Bool.{Bool, true, false, _&&_, not as flip}
+use Prim.Native.Nat.{ℕ, zero, suc, _+_}
 use lib.Dec.{eqb}
 use lib.ListN.{length, getD}
 use Rattle.std.specs.declared.option.Option.{Option}
 use Rattle.std.specs.declared.option.Option.the-variants.{None, Some}
 use Rattle.definitions.specs.Lists.{at, bind, flat, each, sum, times, is-some, mapFrom}
 use Rattle.definitions.specs.Alg.{Alg}
-use Rattle.definitions.specs.Systems.{Kind, parameter, value, Term, Occurrence, Clause, Equation, System}
+use Rattle.definitions.specs.Systems.{Kind, parameter, value, Occurrence, Clause, Equation, System}
 use Rattle.definitions.specs.Values.{known, isFalse}
 use Rattle.definitions.specs.Terms.{replaced, truthTerm, onClause, cut}
 

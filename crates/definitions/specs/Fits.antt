@@ -1,13 +1,13 @@
 -- Which terms and systems fit an algebra: their names exist, terms have the sorts that their places need and keep the depth limit, and counts fit their fields.
 use mathlib.Core.Path.{_≡_}
 use mathlib.Core.List.{List, [], _∷_, map}
-use Prim.Native.Nat.{ℕ, zero, suc, _<_, _≤_}
+use Prim.Native.Nat.{ℕ, suc, _<_, _≤_}
 use lib.ListN.{length}
 use Rattle.std.specs.declared.option.Option.{Option}
 use Rattle.std.specs.declared.option.Option.the-variants.{None, Some}
 use Rattle.definitions.specs.Lists.{at}
 use Rattle.definitions.specs.Alg.{Alg}
-use Rattle.definitions.specs.Systems.{Kind, parameter, variable, value, operation, not, and, or, equal, Term, Terms, node, none, more, Quantified, Occurrence, Clause, Equation, System}
+use Rattle.definitions.specs.Systems.{parameter, variable, value, operation, not, and, or, equal, Term, Terms, node, none, more, Quantified, Occurrence, Clause, Equation, System}
 use Rattle.definitions.specs.ReadSystem.{Scope, Header, scope, greatestDepth}
 
 -- the term has the sort s and depth at most d

@@ -5,14 +5,13 @@ use mathlib.Core.List.{List, [], _∷_}
 use mathlib.Core.Logic.{_⊎_}
 use Prim.Native.Nat.{ℕ, _≤_}
 use lib.ListN.{length, getD}
-use Rattle.std.specs.declared.option.Option.{Option}
-use Rattle.std.specs.declared.option.Option.the-variants.{None, Some}
+use Rattle.std.specs.declared.option.Option.the-variants.{Some}
 use Rattle.std.specs.declared.result.Result.the-variants.{Ok}
 use Rattle.definitions.specs.Lists.{at}
 use Rattle.definitions.specs.Alg.{Alg, Lawful}
 use Rattle.definitions.specs.Algebras.{truth}
 use Rattle.definitions.specs.Systems.{System}
-use Rattle.definitions.specs.Reading.{Reading, got, bad}
+use Rattle.definitions.specs.Reading.{got}
 use Rattle.definitions.specs.ReadSystem.{reading}
 use Rattle.definitions.specs.Truth.{verdict}
 use Rattle.definitions.specs.Passes.{needed}
@@ -40,6 +39,10 @@ pub record Sound (es : List Event) (h : List ℕ) : Type 0 where
   pub bytes : Bytes h
   pub empty : NoLoad es → h ≡ []
   pub kept : (a : Alg) → Lawful a → (f : List ℕ) → Served a f es → Kept a f h es
+
+-- a call that takes h to k adds itself to every history of what was held, and the longer history is sound
+abbrev pub Follows : Event → List ℕ → List ℕ → Type 0
+Follows e h k = (es : List Event) → Past es h → Past (e ∷ es) k × Sound (e ∷ es) k
 
 abbrev pub Histories-sound : Type 0
 Histories-sound = (es : List Event) (h : List ℕ) → Past es h → Sound es h

@@ -1,7 +1,7 @@
 -- What the solution of a ranked system is, with no rounds in it: the meaning that a reader is asked to believe.
 use mathlib.Core.Path.{_≡_}
 use mathlib.Core.List.{List, [], _∷_}
-use Rattle.definitions.specs.Solution.{Sign, Block, edge, put, settled, solution}
+use Rattle.definitions.specs.Solution.{Block, edge, put, settled, solution}
 use Rattle.definitions.specs.Order.{Order, toward, Below}
 
 -- The indices of the outermost block take the least (greatest) truths that their bodies give back, the inner blocks holding

@@ -1,7 +1,7 @@
 -- Truth values with an order of finite height.
 use Prim.Native.Nat.{ℕ, _≤_, _-_, _*_}
 use mathlib.Core.Path.{_≡_, refl, sym}
-use mathlib.Core.Bool.{Bool, true, false, So, not, _||_, true≢false, false≢true}
+use mathlib.Core.Bool.{Bool, true, false, So, not, _||_, false≢true}
 use mathlib.Core.List.{List, List·Memᴰ}
 use native.Mathlib.Omega.{arith}
 use lib.ListN.{length}

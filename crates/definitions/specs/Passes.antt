@@ -1,12 +1,12 @@
 -- The passes F, R and U.
-use mathlib.Core.List.{List, [], _∷_, _++_, map}
-use mathlib.Core.Bool.{Bool, true, false, _&&_, _||_, not as flip}
-use Prim.Native.Nat.{ℕ, zero, suc, _+_}
+use mathlib.Core.List.{List, [], map}
+use mathlib.Core.Bool.{Bool, true, false, _||_, not as flip}
+use Prim.Native.Nat.{ℕ}
 use lib.Dec.{eqb}
 use lib.ListN.{length, getD}
 use Rattle.std.specs.declared.option.Option.{Option}
 use Rattle.std.specs.declared.option.Option.the-variants.{None, Some}
-use Rattle.definitions.specs.Lists.{at, or-else, flat, each, some, keep, sum, times, mapFrom, upTo, strike, place}
+use Rattle.definitions.specs.Lists.{or-else, flat, some, keep, sum, times, upTo, strike, place}
 use Rattle.definitions.specs.Alg.{Alg}
 use Rattle.definitions.specs.Systems.{Kind, parameter, variable, value, operation, not, and, or, equal, Term, Terms, node, none, more, term, fold, Occurrence, Clause, Equation, System}
 use Rattle.definitions.specs.Values.{known, isFalse}

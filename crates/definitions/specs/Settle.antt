@@ -1,5 +1,5 @@
 -- Runs of passes on files, and rounds of them.
-use mathlib.Core.List.{List, [], _∷_, _++_, map}
+use mathlib.Core.List.{List, [], _∷_, map}
 use mathlib.Core.Bool.{Bool, true, false, _&&_}
 use Prim.Native.Nat.{ℕ, zero, suc, _+_}
 use lib.Dec.{eqb, leb}
@@ -10,7 +10,7 @@ use Rattle.faults.specs.declared.PassFault.the-variants.{Reading as Unread, Dec
 use Rattle.faults.specs.declared.Halt.{Halt}
 use Rattle.definitions.specs.Lists.{sum, same}
 use Rattle.definitions.specs.Alg.{Alg}
-use Rattle.definitions.specs.Systems.{Kind, parameter, variable, value, operation, not, and, or, equal, Term, fold, Quantified, Occurrence, Clause, Equation, System}
+use Rattle.definitions.specs.Systems.{Kind, parameter, variable, value, operation, not, and, or, equal, Term, fold, Occurrence, Clause, Equation, System}
 use Rattle.definitions.specs.Reading.{Reading, got, bad}
 use Rattle.definitions.specs.ReadSystem.{reading}
 use Rattle.definitions.specs.Written.{written}

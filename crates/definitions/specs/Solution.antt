@@ -1,4 +1,4 @@
--- Ranked systems of least and greatest fixpoint equations, and their solution.
+-- Ranked systems of least and greatest fixpoint equations, and how their solution is found, by rounds. What it is, with no rounds, is said in Nested; that the rounds find it, and that there is no other, is proved in the crate `fixpoint`.
 use Prim.Native.Nat.{ℕ, zero, suc}
 use mathlib.Core.Bool.{Bool, true, false}
 use mathlib.Core.List.{List, [], _∷_}

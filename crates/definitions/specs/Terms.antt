@@ -1,10 +1,9 @@
 -- What passes do to terms, and removing parameters.
-use mathlib.Core.List.{List, [], _∷_, map}
-use mathlib.Core.Bool.{Bool, true, false, _||_}
+use mathlib.Core.List.{List, [], map}
+use mathlib.Core.Bool.{Bool}
 use Prim.Native.Nat.{ℕ}
-use lib.Dec.{eqb}
 use lib.ListN.{getD}
-use Rattle.definitions.specs.Lists.{mapFrom, strike, place, some}
+use Rattle.definitions.specs.Lists.{mapFrom, strike, place}
 use Rattle.definitions.specs.Systems.{Kind, parameter, variable, value, operation, not, and, or, equal, Term, term, fold, Occurrence, Clause, Equation, System}
 
 -- the kind with its parameter, if it is one, made another kind

@@ -5,7 +5,7 @@ use lib.ListN.{length}
 use Rattle.definitions.specs.Lists.{flat}
 use Rattle.definitions.specs.Bits.{bits, packed}
 use Rattle.definitions.specs.Solution.{Sign, least, greatest}
-use Rattle.definitions.specs.Systems.{Kind, parameter, variable, value, operation, not, and, or, equal, Term, fold, Quantifier, exists, forall, Quantified, Occurrence, Clause, Equation, System}
+use Rattle.definitions.specs.Systems.{Kind, parameter, variable, value, operation, not, and, or, equal, Term, fold, Quantifier, exists, forall, Occurrence, Clause, Equation, System}
 
 abbrev pub kindBits : Kind → List ℕ
 kindBits (parameter n) = bits 3 0 ++ bits 4 n

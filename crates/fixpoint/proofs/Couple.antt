@@ -1,6 +1,6 @@
--- The transfer with the demand on the bodies kept at the blocks.
-use mathlib.Core.Path.{_≡_, sym, subst}
-use mathlib.Core.List.{List, [], _∷_}
+-- The transfer where bodies need to agree only at assignments that give the later blocks back.
+use mathlib.Core.Path.{sym, subst}
+use mathlib.Core.List.{List}
 use Rattle.definitions.specs.Solution.{Block, edge}
 use Rattle.definitions.specs.Order.{Order, Monotone, Enough}
 use Rattle.definitions.specs.Fits.{Every}

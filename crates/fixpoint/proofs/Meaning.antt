@@ -1,10 +1,10 @@
 -- The solution by rounds is the one that the round-free definition has.
-use mathlib.Core.Path.{_≡_, refl, sym, _∙_, ap, ap₂, subst, fun-ext}
+use mathlib.Core.Path.{_≡_, refl, sym, _∙_, ap, fun-ext}
 use mathlib.Core.List.{List, [], _∷_}
-use Rattle.definitions.specs.Solution.{Sign, least, greatest, Block, edge, put}
-use Rattle.definitions.specs.Order.{Order, dual, toward, Below, Monotone, Enough}
+use Rattle.definitions.specs.Solution.{Block, put}
+use Rattle.definitions.specs.Order.{Order, toward, Monotone, Enough}
 use Rattle.definitions.specs.Fits.{Every}
-use Rattle.definitions.specs.Nested.{solve, outer, Outermost, IsSolution}
+use Rattle.definitions.specs.Nested.{solve, outer, IsSolution}
 use Rattle.fixpoint.specs.Laws.{At-most-one-solution, Rounds-find-solution}
 use Rattle.fixpoint.proofs.Signs.{sign-back, sign-least, op-mono}
 use Rattle.fixpoint.proofs.Rounds.{antisym, le-eq}

@@ -1,14 +1,14 @@
 -- Neighbouring blocks of one sign (Bekić).
-use Prim.Native.Nat.{ℕ, _+_, _*_, _≤_}
+use Prim.Native.Nat.{_+_}
 use mathlib.Core.Path.{_≡_, refl, sym, _∙_, ap, subst, fun-ext}
-use mathlib.Core.Bool.{Bool, true, false, _||_, true≢false, false≢true}
+use mathlib.Core.Bool.{Bool, true, false, _||_, true≢false}
 use mathlib.Core.List.{List, [], _∷_, _++_, List·Memᴰ, Memᴰ·append-left, Memᴰ·append-right}
 use native.Mathlib.Nat.{add-comm, mul-add}
 use native.Mathlib.Omega.{arith}
-use lib.ListN.{length, length-append}
-use Rattle.definitions.specs.Solution.{Sign, least, greatest, Block, iter, edge, put, settled}
+use lib.ListN.{length-append}
+use Rattle.definitions.specs.Solution.{Sign, least, greatest, Block, edge, put, settled}
 use Rattle.definitions.specs.Order.{Order, Le, dual, Below, Monotone, Enough}
-use Rattle.definitions.specs.Nested.{solve, outer}
+use Rattle.definitions.specs.Nested.{solve}
 use Rattle.fixpoint.specs.Laws.{join, Neighbours-merge, Neighbours-exchange}
 use Rattle.fixpoint.proofs.Rounds.{pick, antisym, le-eq}
 use Rattle.fixpoint.proofs.Rounds.{step, settled-mono, after-least, settled-back}

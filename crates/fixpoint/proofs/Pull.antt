@@ -4,13 +4,11 @@ use mathlib.Core.Path.{_≡_, refl, sym, _∙_, ap, subst, fun-ext}
 use mathlib.Core.Bool.{Bool, true, false, false≢true}
 use mathlib.Core.List.{List, [], _∷_, _++_, map, List·Memᴰ, Memᴰ·map}
 use mathlib.Core.Logic.{_⊎_, inl, inr}
-use native.Mathlib.Omega.{arith}
 use lib.ListN.{length}
 use Rattle.definitions.specs.Solution.{Block}
-use Rattle.definitions.specs.Order.{Order, Monotone, Enough}
+use Rattle.definitions.specs.Order.{Order, Enough}
 use Rattle.definitions.specs.Fits.{Every}
-use Rattle.definitions.specs.Nested.{solve}
-use Rattle.fixpoint.specs.Laws.{Agree, Coupled, inBlocks, GivesBack, widen, only-old, Formula-pulled-out}
+use Rattle.fixpoint.specs.Laws.{Agree, Coupled, inBlocks, widen, only-old, Formula-pulled-out}
 use Rattle.fixpoint.proofs.Solves.{or-left, or-right, in-mid}
 use Rattle.fixpoint.proofs.Couple.{couple}
 

@@ -1,14 +1,14 @@
 -- The rounds of one block: they come to rest, at the least assignment that the block's operator gives back.
 use Prim.Native.Nat.{ℕ, zero, suc, _≤_, _<_, _+_, _*_}
 use mathlib.Core.Path.{_≡_, refl, sym, _∙_, ap, subst, fun-ext}
-use mathlib.Core.Bool.{Bool, true, false, true≢false}
+use mathlib.Core.Bool.{Bool, true, false}
 use mathlib.Core.List.{List, [], _∷_, List·Memᴰ, List·Memᴰ·head, List·Memᴰ·tail}
 use mathlib.Core.Logic.{_⊎_, inl, inr}
 use native.Mathlib.Nat.{mul-suc, add-suc, add-zero, le-refl}
 use native.Mathlib.Decide.{decLe}
 use native.Mathlib.Omega.{arith}
 use lib.ListN.{length}
-use Rattle.definitions.specs.Solution.{Sign, least, greatest, Block, iter, put, settled}
+use Rattle.definitions.specs.Solution.{Block, iter, put, settled}
 use Rattle.definitions.specs.Order.{Order, Le, Below, Monotone, Enough}
 
 abbrev pub pick : {V : Type 0} → Bool → V → V → V

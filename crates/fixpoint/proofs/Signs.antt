@@ -2,10 +2,10 @@
 use Prim.Native.Nat.{ℕ, _+_}
 use mathlib.Core.Path.{_≡_, ap}
 use mathlib.Core.List.{List, [], _∷_}
-use Rattle.definitions.specs.Solution.{Sign, least, greatest, Block, iter, edge, put, settled}
+use Rattle.definitions.specs.Solution.{Sign, least, greatest, Block, edge, put, settled}
 use Rattle.definitions.specs.Order.{Order, dual, toward, Below, Monotone, Enough}
 use Rattle.definitions.specs.Nested.{solve, outer}
-use Rattle.fixpoint.specs.Laws.{Extreme, Blocks-extreme, Solutions-monotone}
+use Rattle.fixpoint.specs.Laws.{Blocks-extreme, Solutions-monotone}
 use Rattle.fixpoint.proofs.Rounds.{le-eq, step, after, settled-mono, after-least, more-rounds, settled-back}
 
 pub mono-dual : {I J V : Type 0} (O : Order V) (F : (I → V) → J → V) → Monotone O F → Monotone (dual O) F

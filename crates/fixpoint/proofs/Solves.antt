@@ -2,7 +2,7 @@
 use mathlib.Core.Path.{_≡_, refl, sym, _∙_, ap}
 use mathlib.Core.Bool.{Bool, true, false, _||_, true≢false, false≢true}
 use mathlib.Core.List.{List, [], _∷_, _++_}
-use Rattle.definitions.specs.Solution.{Block, edge, put}
+use Rattle.definitions.specs.Solution.{Block, edge}
 use Rattle.definitions.specs.Order.{Order, Monotone, Enough}
 use Rattle.definitions.specs.Fits.{Every}
 use Rattle.definitions.specs.Nested.{solve, outer}

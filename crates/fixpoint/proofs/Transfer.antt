@@ -2,9 +2,9 @@
 use Prim.Native.Nat.{ℕ, zero, suc, _+_}
 use mathlib.Core.Path.{_≡_, refl, sym, _∙_, ap, subst, subst₂}
 use mathlib.Core.Bool.{Bool, true, false, true≢false, false≢true}
-use mathlib.Core.List.{List, [], _∷_}
+use mathlib.Core.List.{List}
 use native.Mathlib.Nat.{add-comm}
-use Rattle.definitions.specs.Solution.{Sign, least, greatest, Block, iter, edge, put, settled}
+use Rattle.definitions.specs.Solution.{Sign, least, greatest, Block, edge, settled}
 use Rattle.definitions.specs.Order.{Order, Monotone, Enough}
 use Rattle.definitions.specs.Fits.{Every}
 use Rattle.definitions.specs.Nested.{solve, outer}

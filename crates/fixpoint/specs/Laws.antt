@@ -6,7 +6,7 @@ use mathlib.Core.Bool.{Bool, true, false, So, _||_}
 use mathlib.Core.List.{List, [], _∷_, _++_, map}
 use mathlib.Core.Logic.{_⊎_, inl, inr}
 use Rattle.definitions.specs.Fits.{Every}
-use Rattle.definitions.specs.Solution.{Sign, Block, iter, edge, put, settled, solution}
+use Rattle.definitions.specs.Solution.{Block, iter, edge, put}
 use Rattle.definitions.specs.Order.{Order, toward, Below, Monotone, Enough}
 use Rattle.definitions.specs.Nested.{IsSolution, solve, outer}
 
@@ -87,7 +87,7 @@ Transfer-of-tests I J V W = (O : Order V) (P : Order W) (ρ : V → W → Bool) 
 abbrev pub Transfer-of-equals : (I J V : Type 0) → Type 0
 Transfer-of-equals I J V = (O : Order V) (rel : I → J → Bool) → Transfer O O (λ a b. a ≡ b) (λ i j. So (rel i j))
 
--- As `Matched`, with the demand on the bodies kept at each matched pair of blocks: they agree at assignments that agree
+-- As `Matched`, and at each matched pair of blocks the bodies need to agree only at assignments that agree
 -- and that give the blocks behind these back.
 pub data Coupled {I J V W : Type 0} (ρ : V → W → Type 0) (rel : I → J → Type 0) (body : (I → V) → I → V) (body′ : (J → W) → J → W) :
     List (Block I) → List (Block J) → Type 0 where

@@ -1,17 +1,16 @@
 -- A known value agrees with the value under every completion.
-use Prim.Native.Nat.{ℕ, zero, suc}
-use mathlib.Core.Path.{_≡_, refl, sym, _∙_, ap, subst}
-use mathlib.Core.Bool.{Bool, true, false, false≢true, true≢false}
+use Prim.Native.Nat.{ℕ}
+use mathlib.Core.Path.{_≡_, refl}
+use mathlib.Core.Bool.{true, false}
 use mathlib.Core.List.{List, [], _∷_, map}
 use native.Mathlib.Omega.{arith}
-use Rattle.std.proofs.shelf.Tests.{eqb-true, cases-bool}
+use Rattle.std.proofs.shelf.Tests.{eqb-true}
 use Rattle.std.specs.declared.option.Option.{Option}
 use Rattle.std.specs.declared.option.Option.the-variants.{None, Some}
 use Rattle.definitions.specs.Alg.{Alg}
-use Rattle.definitions.specs.Systems.{Kind, parameter, variable, value, operation, not, and, or, equal, Term, Terms, node, none, more, fold, folds}
+use Rattle.definitions.specs.Systems.{Kind, parameter, variable, value, operation, not, and, or, equal, Term, Terms, node, none, more, folds}
 use Rattle.definitions.specs.Values.{known, kindKnown, valueOf, holds, isTrue, isFalse}
 use Rattle.theorems.proofs.Knows.{Under, same, unknown, Unders, bind-under, getD-under, whole-under, both-under, either-under}
-use lib.Dec.{eqb}
 use lib.ListN.{getD}
 
 module _ (a : Alg) (ps : List ℕ) (ks : List (Option ℕ)) (vs : List ℕ) (h : (n : ℕ) → Under (getD (map Some ps) n None) (getD ks n None)) where

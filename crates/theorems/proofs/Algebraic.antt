@@ -1,18 +1,18 @@
 -- The algebra of some sizes and operations that keep to their ranges is lawful.
 use mathlib.Core.Path.{_≡_, refl, sym, _∙_, ap, ap₂, subst}
 use mathlib.Core.Bool.{Bool, true, false, _&&_, false≢true}
-use mathlib.Core.List.{List, [], _∷_, _++_, map}
-use Prim.Native.Nat.{ℕ, zero, suc, _+_, _-_, _*_, _%_, min, _<_, _≤_}
+use mathlib.Core.List.{List, [], _∷_, map}
+use Prim.Native.Nat.{ℕ, zero, suc, _+_, _-_, _*_, _%_, _<_, _≤_}
 use native.Mathlib.Nat.{mod-lt, mul-suc, mul-one, one-mul, mul-comm, mul-assoc, mul-le-mul-left}
 use native.Mathlib.Omega.{arith}
 use lib.Dec.{ltb, leb}
-use lib.ListN.{length, getD, length-append, length-map}
+use lib.ListN.{length, getD, length-map}
 use Rattle.std.proofs.shelf.Tests.{lt-ltb, ltb-true, leb-true}
 use Rattle.std.specs.declared.option.Option.{Option}
 use Rattle.std.specs.declared.option.Option.the-variants.{None, Some}
 use Rattle.definitions.specs.Lists.{at, bind, flat, each, product, mapFrom}
-use Rattle.definitions.specs.Alg.{Alg, Op, within, sized, algebra, Lawful}
-use Rattle.definitions.specs.Algebras.{first, second, truth, counts, counting, steps, level}
+use Rattle.definitions.specs.Alg.{Op, within, sized, algebra, Lawful}
+use Rattle.definitions.specs.Algebras.{first, second, truth, counts, counting, steps}
 use Rattle.definitions.specs.Fits.{Every}
 use Rattle.faults.specs.declared.Reason.the-variants.{BadCountingSizes}
 use Rattle.definitions.specs.Reading.{Reading, got, bad}
@@ -20,11 +20,9 @@ use Rattle.definitions.specs.FileFits.{OpFits, TableFits}
 use Rattle.definitions.specs.Tables.{TableOp, Table, placeOf, tabled, table, tableReading}
 use Rattle.definitions.specs.Calls.{Bytes, Filling, filled, unfilled, countingFill, tableFillBy, tableFill}
 use Rattle.theorems.specs.AlgebraLaws.{Algebras-lawful}
-use Rattle.theorems.proofs.Listing.{none-some, some-inj, every-at, every-append, every-map, every-with}
+use Rattle.theorems.proofs.Listing.{none-some, some-same, getD-at, every-at, every-append, every-mapped, every-with, at-lt, and-left, and-right}
 use Rattle.theorems.proofs.TableFiles.{table-forth}
-use Rattle.theorems.proofs.Numbers.{at-lt}
-use Rattle.theorems.proofs.Blocks.{and-left, and-right}
-use Rattle.theorems.proofs.Ranges.{truth-two}
+use Rattle.theorems.proofs.Ranges.{truth-low}
 
 at-some : {A : Type 0} (l : List A) (k : ℕ) → k < length l → (x : A) × (at l k ≡ Some x)
 at-some [] k h = absurd (omega arith)
@@ -35,11 +33,6 @@ at-over : {A : Type 0} (l : List A) (k : ℕ) → length l ≤ k → at l k ≡ 
 at-over [] k h = refl
 at-over (x ∷ l) zero h = absurd (omega arith)
 at-over (x ∷ l) (suc k) h = at-over l k (omega arith)
-
-at-getD : (l : List ℕ) (k x : ℕ) → at l k ≡ Some x → getD l k 0 ≡ x
-at-getD [] k x e = none-some x e
-at-getD (y ∷ l) zero x e = some-inj y x e
-at-getD (y ∷ l) (suc k) x e = at-getD l k x e
 
 bind-inv : {A B : Type 0} (o : Option A) (g : A → Option B) (y : B) → bind o g ≡ Some y → (x : A) × (o ≡ Some x) × (g x ≡ Some y)
 bind-inv None g y e = none-some y e
@@ -60,7 +53,7 @@ module _ (sizes : List ℕ) where
   within-all (s ∷ ss) [] l h b = absurd (omega arith)
   within-all (s ∷ ss) (x ∷ xs) l h b =
       let (z, e) = at-some sizes s (h .0) in
-      let w : getD sizes s 0 ≡ z = at-getD sizes s z e in
+      let w : getD sizes s 0 ≡ z = getD-at 0 sizes s z e in
       let u : x < z = b 0 s z refl e in
       ap₂ (λ p q. p && q) (lt-ltb x (getD sizes s 0) (omega arith)) (within-all ss xs (omega arith) (h .1) (λ k. b (suc k)))
 
@@ -73,16 +66,16 @@ module _ (sizes : List ℕ) where
       (ap suc (r .0), low (r .1) (ltb-true x (getD sizes s 0) (and-left (ltb x (getD sizes s 0)) (within (sized sizes ss) xs) h)))
     where
       low : ((k t z : ℕ) → at ss k ≡ Some t → at sizes t ≡ Some z → getD xs k 0 < z) → x < getD sizes s 0 → (k t z : ℕ) → at (s ∷ ss) k ≡ Some t → at sizes t ≡ Some z → getD (x ∷ xs) k 0 < z
-      low r u zero t z e w = let q : getD sizes s 0 ≡ z = at-getD sizes s z (ap (at sizes) (some-inj s t e) ∙ w) in omega arith
+      low r u zero t z e w = let q : getD sizes s 0 ≡ z = getD-at 0 sizes s z (ap (at sizes) (some-same s t e) ∙ w) in omega arith
       low r u (suc k) t z e w = r k t z e w
 
   module _ (os : List Op) (some-sort : 1 ≤ length sizes) (few-sorts : length sizes ≤ 16) (truths : at sizes 0 ≡ Some 2) (fit : Every (λ n. (1 ≤ n) × (n ≤ 256)) sizes)
       (few-ops : length os ≤ 63) (ops : Every (OpRanges sizes) os) where
     op-at : (o : ℕ) (q : Op) → at os o ≡ Some q → OpRanges sizes q
-    op-at o q e = every-at (OpRanges sizes) os o q ops e
+    op-at o q e = every-at (OpRanges sizes) os o q e ops
 
     ran : (b : Bool) (v w : ℕ) → elim b [ true ↦ Some v | false ↦ None ] ≡ Some w → (b ≡ true) × (v ≡ w)
-    ran true v w e = (refl, some-inj v w e)
+    ran true v w e = (refl, some-same v w e)
     ran false v w e = none-some w e
 
     value-inv : (o : ℕ) (xs : List ℕ) (v : ℕ) → algebra sizes os .value o xs ≡ Some v → (q : Op) × (at os o ≡ Some q) × (within (sized sizes (q .args)) xs ≡ true) × (q .run xs ≡ v)
@@ -91,7 +84,7 @@ module _ (sizes : List ℕ) where
         let r = ran (within (sized sizes (q .args)) xs) (q .run xs) v h in (q, there, r .0, r .1)
 
     arity-inv : (o n : ℕ) → algebra sizes os .arity o ≡ Some n → (q : Op) × (at os o ≡ Some q) × (length (q .args) ≡ n)
-    arity-inv o n e = let (q, there, h) = bind-inv (at os o) (λ (q : Op). Some (length (q .args))) n e in (q, there, some-inj (length (q .args)) n h)
+    arity-inv o n e = let (q, there, h) = bind-inv (at os o) (λ (q : Op). Some (length (q .args))) n e in (q, there, some-same (length (q .args)) n h)
 
     pub algebra-lawful : Lawful (algebra sizes os)
     algebra-lawful =
@@ -99,7 +92,7 @@ module _ (sizes : List ℕ) where
           some-sort = some-sort;
           few-sorts = few-sorts;
           truths = truths;
-          sort = λ s h. let (n, e) = at-some sizes s h in let b = every-at (λ n. (1 ≤ n) × (n ≤ 256)) sizes s n fit e in (n, e, b .0, b .1);
+          sort = λ s h. let (n, e) = at-some sizes s h in let b = every-at (λ n. (1 ≤ n) × (n ≤ 256)) sizes s n e fit in (n, e, b .0, b .1);
           no-sort = λ s h. at-over sizes s h;
           few-ops = few-ops;
           op = λ o h. let (q, e) = at-some os o h in (length (q .args), ap (λ z. bind z (λ (q : Op). Some (length (q .args)))) e, op-at o q e .few);
@@ -107,13 +100,13 @@ module _ (sizes : List ℕ) where
           arg = λ o n ar k l.
               let (q, there, w) = arity-inv o n ar in
               let (s, e) = at-some (q .args) k (omega arith) in
-              (s, ap (λ z. bind z (λ (q : Op). at (q .args) k)) there ∙ e, every-at (λ s. s < length sizes) (q .args) k s (op-at o q there .args) e);
+              (s, ap (λ z. bind z (λ (q : Op). at (q .args) k)) there ∙ e, every-at (λ s. s < length sizes) (q .args) k s e (op-at o q there .args));
           no-arg = λ o k h. none-arg o k h (at os o) refl;
           res = λ o h. let (q, e) = at-some os o h in (q .res, ap (λ z. bind z (λ (q : Op). Some (q .res))) e, op-at o q e .res);
           below = λ o xs v e.
               let (q, there, w, u) = value-inv o xs v e in
               let (n, m) = at-some sizes (q .res) (op-at o q there .res) in
-              let k : getD sizes (q .res) 0 ≡ n = at-getD sizes (q .res) n m in
+              let k : getD sizes (q .res) 0 ≡ n = getD-at 0 sizes (q .res) n m in
               let l : q .run xs < getD sizes (q .res) 0 = op-at o q there .run xs w in
               (q .res, n, ap (λ z. bind z (λ (q : Op). Some (q .res))) there, m, omega arith);
           total = λ o n xs ar l h.
@@ -147,15 +140,15 @@ counts-fit : (sizes : List ℕ) (s n : ℕ) → at sizes s ≡ Some n → at siz
 counts-fit sizes s n e t l =
     let i : s < length sizes = at-lt sizes s n e in
     let i₀ : 0 < length sizes = at-lt sizes 0 2 t in
-    let g : getD sizes s 0 ≡ n = at-getD sizes s n e in
-    let g₀ : getD sizes 0 0 ≡ 2 = at-getD sizes 0 2 t in (
+    let g : getD sizes s 0 ≡ n = getD-at 0 sizes s n e in
+    let g₀ : getD sizes 0 0 ≡ 2 = getD-at 0 sizes 0 2 t in (
       record { few = omega arith; args = (i, tt); res = i; run = λ xs h. omega arith },
       (
         record { few = omega arith; args = (i, tt); res = i; run = λ xs h. let a : first xs < n = one-in sizes s n xs e h in omega arith },
         (
           record { few = omega arith; args = (i, tt); res = i; run = λ xs h. subst (λ z. (first xs + 1) % n < z) (sym g) (mod-lt (first xs + 1) (let p : 0 < n = omega arith in p)) },
           (
-            record { few = omega arith; args = (i, (i, tt)); res = i₀; run = λ xs h. subst (λ z. truth (ltb (first xs) (second xs)) < z) (sym g₀) (truth-two (ltb (first xs) (second xs))) },
+            record { few = omega arith; args = (i, (i, tt)); res = i₀; run = λ xs h. subst (λ z. truth (ltb (first xs) (second xs)) < z) (sym g₀) (truth-low (ltb (first xs) (second xs))) },
             tt,
           ),
         ),
@@ -186,7 +179,7 @@ steps-fit = (
   (
     record { few = omega arith; args = (omega arith, (omega arith, tt)); res = omega arith; run = λ xs h. let (a, b) = two-in (2 ∷ 16 ∷ []) 1 16 xs refl h in omega arith },
     (
-      record { few = omega arith; args = (omega arith, (omega arith, tt)); res = omega arith; run = λ xs h. truth-two (leb (second xs) (first xs)) },
+      record { few = omega arith; args = (omega arith, (omega arith, tt)); res = omega arith; run = λ xs h. truth-low (leb (second xs) (first xs)) },
       tt,
     ),
   ),
@@ -225,7 +218,7 @@ table-lawful : (t : Table) → TableFits t → Lawful (table t)
 table-lawful t h =
     algebra-lawful (t .sizes) (map (tabled (t .sizes)) (t .ops)) (let l : 0 < length (t .sizes) = at-lt (t .sizes) 0 2 (h .truths) in omega arith) (h .few) (h .truths) (h .sizes)
     (omega (arith, length-map (t .ops) (tabled (t .sizes)), h .few-ops))
-    (every-map (OpRanges (t .sizes)) (tabled (t .sizes)) (t .ops)
+    (every-mapped (OpRanges (t .sizes)) (tabled (t .sizes)) (t .ops)
     (every-with (OpFits (t .sizes)) (λ q. OpRanges (t .sizes) (tabled (t .sizes) q)) (t .ops) (h .ops) (tabled-fits (t .sizes))))
 
 -- what a fill accepts

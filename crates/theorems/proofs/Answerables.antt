@@ -6,7 +6,7 @@ use Prim.Native.Nat.{ℕ, _≤_}
 use native.Mathlib.Omega.{arith}
 use lib.Dec.{leb}
 use lib.ListN.{length, drop}
-use borrow.Author.Tests.{leb-true}
+use borrow.Author.Tests.{leb-true, le-leb}
 use Rattle.std.proofs.shelf.Tests.{and-parts}
 use Rattle.std.specs.declared.option.Option.{Option}
 use Rattle.std.specs.declared.option.Option.the-variants.{None, Some}
@@ -20,18 +20,17 @@ use Rattle.faults.specs.declared.PassFault.the-variants.{Declined}
 use Rattle.faults.specs.declared.ExpandFault.{ExpandFault}
 use Rattle.faults.specs.declared.ExpandFault.the-variants.{Refused}
 use Rattle.faults.specs.declared.SolveFault.{SolveFault}
-use Rattle.definitions.specs.Alg.{Alg, Lawful}
+use Rattle.definitions.specs.Alg.{Alg}
 use Rattle.definitions.specs.Systems.{System}
 use Rattle.definitions.specs.Reading.{Reading, got, bad}
 use Rattle.definitions.specs.ReadSystem.{reading}
 use Rattle.definitions.specs.Written.{written}
-use Rattle.definitions.specs.Settle.{Pass, Ran, wrote, refused}
+use Rattle.definitions.specs.Settle.{Pass, Ran, wrote, refused, ranOn}
 use Rattle.definitions.specs.Rules.{fittedIn, appliedTo, applied}
 use Rattle.definitions.specs.Boolean.{Variable, booleanWritten, booleanReading, solves, Expanded, made, refused as declined, shipped, expanded, expandRead, expandOn}
-use Rattle.definitions.specs.Calls.{Bytes, Delivered, Loads, Answers, Applies, runOn, runBy, Expanding, Solved, found, unsolved, solveVariables, solve, Solving}
-use Rattle.definitions.specs.Past.{Event, Past, call, Step}
-use Rattle.definitions.specs.Histories.{Sound}
-use Rattle.theorems.specs.CallLaws.{Calls-answer, Calls-answer-once, Buffers-answer, Calls-extend-histories}
+use Rattle.definitions.specs.Calls.{Delivered, Loads, Answers, Applies, runOn, runBy, Expanding, Solved, found, unsolved, solveVariables, solve, Solving}
+use Rattle.definitions.specs.Past.{Past, call}
+use Rattle.theorems.specs.CallLaws.{Calls-answer, Calls-answer-once, Buffers-answer, Run-is-applied, Calls-extend-histories}
 use Rattle.theorems.proofs.PassRules.{passes-rule}
 use Rattle.theorems.proofs.Histories.{sound, solves-long}
 use Rattle.theorems.proofs.Settled.{settle-answers, settle-one}
@@ -213,6 +212,24 @@ solve-one g before after after′ (Ok n) (Ok m) s t =
 solve-one g before after after′ (Ok n) (Err d) s t = absurd (found-unsolved (sym (s .finds) ∙ t .why))
 solve-one g before after after′ (Err e) (Ok m) s t = absurd (found-unsolved (sym (t .finds) ∙ s .why))
 solve-one g before after after′ (Err e) (Err d) s t = (ap Err (unsolved-same (sym (s .why) ∙ t .why)), s .kept ∙ sym (t .kept))
+
+-- a buffer of 8,192 bytes or more is as good as the bench
+pub run-applied : Run-is-applied
+run-applied m a room f l = go (reading a f)
+  where
+    fits : (g : List ℕ) (b : Bool) → leb (length g) 8192 ≡ b → (leb (length g) room && leb (length g) 8192) ≡ leb (length g) 8192
+    fits g true t = ap (λ z. z && leb (length g) 8192) (le-leb (length g) room (omega (arith, l, leb-true (length g) 8192 t)))
+    fits g false t = ap (λ z. leb (length g) room && z) t ∙ never (leb (length g) room) ∙ sym t
+      where
+        never : (b : Bool) → (b && false) ≡ false
+        never true = refl
+        never false = refl
+
+    go : (o : Reading System) → appliedTo m a room o ≡ ranOn m a o
+    go (got s) =
+        let g = written (m a s) in
+        ap (λ (b : Bool). elim b as (λ _. Ran) [ true ↦ wrote g | false ↦ refused (Declined ResultTooLong) ]) (fits g (leb (length g) 8192) refl)
+    go (bad r p) = refl
 
 pub buffers-answer : Buffers-answer
 buffers-answer =

@@ -1,21 +1,19 @@
 -- A term that fits, written, is read back.
-use mathlib.Core.Path.{_≡_, refl, sym, _∙_, ap, ap₂, subst}
-use mathlib.Core.Bool.{Bool, true, false}
+use mathlib.Core.Path.{_≡_, refl, sym, ap}
 use mathlib.Core.List.{List, [], _∷_, _++_, map}
-use Prim.Native.Nat.{ℕ, zero, suc, _+_, _-_, _*_, _^_, _<_, _≤_}
-use native.Mathlib.Nat.{add-suc, add-zero, add-assoc}
+use Prim.Native.Nat.{ℕ, suc, _+_, _-_, _<_}
+use native.Mathlib.Nat.{add-zero, add-assoc}
 use native.Mathlib.Omega.{arith}
-use lib.Dec.{leb, eqb}
 use lib.ListN.{length, length-append}
-use Rattle.std.proofs.shelf.Tests.{le-leb, eq-eqb, lt-ltb}
+use Rattle.std.proofs.shelf.Tests.{eq-eqb, lt-ltb}
 use Rattle.std.specs.declared.option.Option.{Option}
 use Rattle.std.specs.declared.option.Option.the-variants.{None, Some}
-use Rattle.definitions.specs.Lists.{at, flat, upTo, from}
-use Rattle.definitions.specs.Bits.{bitAt, field, bits, Stands}
+use Rattle.definitions.specs.Lists.{at, flat, from}
+use Rattle.definitions.specs.Bits.{bits, Stands}
 use Rattle.definitions.specs.Alg.{Alg}
-use Rattle.definitions.specs.Systems.{Kind, parameter, variable, value, operation, not, and, or, equal, Term, Terms, node, none, more, terms, folds}
-use Rattle.definitions.specs.Reading.{Step, next, stop, Reader, take, follow, one-by-one, below}
-use Rattle.definitions.specs.ReadSystem.{Scope, Sorted, of, suits, readTerm}
+use Rattle.definitions.specs.Systems.{parameter, variable, value, operation, not, and, or, equal, Term, Terms, node, none, more, terms, folds}
+use Rattle.definitions.specs.Reading.{next, one-by-one, below}
+use Rattle.definitions.specs.ReadSystem.{Scope, Sorted, suits, readTerm}
 use Rattle.definitions.specs.Written.{kindBits, termBits}
 use Rattle.definitions.specs.Fits.{Fits, FitsArgs, fit-parameter, fit-variable, fit-value, fit-operation, fit-not, fit-and, fit-or, fit-equal, fit-none, fit-more, Needs}
 use Rattle.theorems.proofs.Fields.{stands-left, stands-right, takes}

@@ -3,29 +3,28 @@ use Rattle.faults.specs.declared.Reason.the-variants.{NoSuchName, RankOfBothSig
 use mathlib.Core.Path.{_≡_, refl, sym, _∙_, ap, ap₂, subst, subst₂}
 use mathlib.Core.Bool.{Bool, true, false, _&&_, not as flip}
 use mathlib.Core.List.{List, [], _∷_, _++_, map, append-nil, append-assoc}
-use Prim.Native.Nat.{ℕ, zero, suc, _+_, _-_, _*_, _^_, _<_, _≤_}
+use Prim.Native.Nat.{ℕ, suc, _+_, _-_, _<_, _≤_}
 use native.Mathlib.Nat.{add-zero, zero-add}
 use native.Mathlib.Omega.{arith}
-use lib.Dec.{leb, eqb, ltb}
+use lib.Dec.{eqb}
 use lib.ListN.{length}
-use Rattle.std.specs.declared.option.Option.{Option}
 use Rattle.std.specs.declared.option.Option.the-variants.{None, Some}
 use Rattle.std.proofs.shelf.Tests.{lt-ltb, eqb-true}
 use Rattle.definitions.specs.Lists.{flat, some}
-use Rattle.definitions.specs.Bits.{bits, packed, Stands}
+use Rattle.definitions.specs.Bits.{bits, packed}
 use Rattle.definitions.specs.Algebras.{truth}
 use Rattle.definitions.specs.Solution.{Sign, least, greatest}
-use Rattle.definitions.specs.Reading.{Step, next, stop, Reader, take, takeFor, follow, give, here, below, repeated, file, got, _>>=_, _>>_, must}
+use Rattle.definitions.specs.Reading.{next, Reader, take, follow, give, below, repeated, _>>=_, _>>_}
 use Rattle.definitions.specs.ReadSystem.{signOf}
 use Rattle.definitions.specs.Written.{signBits}
-use Rattle.definitions.specs.Boolean.{Form, known, all, any, var, Forms, nil, cons, forms, count, Variable, formBits, formsBits, variableBits, booleanWritten, readToken, sameSign, clashes, readVariables, readBoolean, booleanReading}
+use Rattle.definitions.specs.Boolean.{Form, known, all, any, var, Forms, nil, cons, forms, count, Variable, formBits, formsBits, variableBits, readToken, sameSign, clashes, readVariables, readBoolean}
 use Rattle.definitions.specs.Fits.{Every}
-use Rattle.definitions.specs.FileFits.{FormFits, fit-known, fit-all, fit-any, fit-var, FormsFit, fit-nil, fit-cons, BooleanFits}
+use Rattle.definitions.specs.FileFits.{FormFits, fit-known, fit-all, fit-any, fit-var, FormsFit, fit-nil, fit-cons}
 use Rattle.theorems.specs.FileLaws.{Booleans-read-back}
 use Rattle.theorems.proofs.Goods.{Good, good-then, good-last, good-take, good-for, good-must, good-here, sign-good}
 use Rattle.theorems.proofs.Packs.{packs}
 use Rattle.theorems.proofs.Whole.{Bits, join, number-bits, flat-bits, sign-bits, ends, file-got}
-use Rattle.theorems.proofs.Listing.{some-none, every-append}
+use Rattle.theorems.proofs.Listing.{every-append}
 
 -- bits
 mutual

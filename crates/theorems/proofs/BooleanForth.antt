@@ -4,30 +4,29 @@ use mathlib.Core.Path.{_≡_, refl, sym, _∙_, ap, ap₂, subst, subst₂}
 use mathlib.Core.Bool.{Bool, true, false, _&&_, not as flip, true≢false, false≢true}
 use mathlib.Core.List.{List, [], _∷_, _++_, map, append-nil, append-assoc}
 use mathlib.Core.Logic.{_⊎_, inl, inr}
-use Prim.Native.Nat.{ℕ, zero, suc, _+_, _-_, _*_, _^_, _<_, _≤_}
-use native.Mathlib.Nat.{add-zero, zero-add}
+use Prim.Native.Nat.{ℕ, zero, suc, _+_, _-_, _*_, _<_, _≤_}
+use native.Mathlib.Nat.{zero-add}
 use native.Mathlib.Omega.{arith}
-use lib.Dec.{leb, eqb, ltb}
+use lib.Dec.{eqb}
 use lib.ListN.{length, getD}
-use Rattle.std.specs.declared.option.Option.{Option}
-use Rattle.std.specs.declared.option.Option.the-variants.{None, Some}
-use Rattle.std.proofs.shelf.Tests.{ltb-true, eqb-true, eq-eqb}
+use Rattle.std.specs.declared.option.Option.the-variants.{Some}
+use Rattle.std.proofs.shelf.Tests.{eqb-true, eq-eqb}
 use Rattle.definitions.specs.Lists.{at, flat, some}
-use Rattle.definitions.specs.Bits.{field, bits, packed, Stands}
+use Rattle.definitions.specs.Bits.{field, bits, Stands}
 use Rattle.definitions.specs.Solution.{Sign, least, greatest}
-use Rattle.definitions.specs.Reading.{Step, next, stop, Reader, take, takeFor, follow, give, fail, here, below, repeated, got, _>>=_, _>>_, must}
+use Rattle.definitions.specs.Reading.{next, stop, take, takeFor, give, fail, below, repeated, _>>=_, _>>_}
 use Rattle.definitions.specs.ReadSystem.{signOf}
 use Rattle.definitions.specs.Written.{signBits}
-use Rattle.definitions.specs.Boolean.{Form, known, all, any, var, Forms, nil, cons, forms, count, Variable, formBits, formsBits, variableBits, booleanWritten, readToken, sameSign, clashes, readVariables, readBoolean, booleanReading, rankOf, signOfRank}
+use Rattle.definitions.specs.Boolean.{Form, known, all, any, var, forms, count, Variable, formBits, formsBits, variableBits, booleanWritten, readToken, sameSign, clashes, readVariables, readBoolean, rankOf, signOfRank}
 use Rattle.definitions.specs.Fits.{Every}
 use Rattle.definitions.specs.FileFits.{FormFits, fit-known, fit-all, fit-any, fit-var, FormsFit, fit-nil, fit-cons, BooleanFits}
 use Rattle.theorems.specs.FileLaws.{Booleans-written-back}
 use Rattle.theorems.proofs.Fields.{follow-inv, below-inv}
-use Rattle.theorems.proofs.Sounds.{Sound, Came, sound-then, sound-last, sound-take, For, sound-for, sound-must, sound-fail, sound-here, sound-give, sound-repeated, sound-map, stands-most, sign-same}
+use Rattle.theorems.proofs.Sounds.{Sound, sound-then, sound-last, sound-take, sound-for, sound-must, sound-fail, sound-here, sound-give, sound-repeated, sound-map, stands-most, sign-same}
 use Rattle.theorems.proofs.Repack.{ended-got, repacked}
 use Rattle.theorems.proofs.BooleanBack.{booleanBits, boolean-bits}
 use Rattle.theorems.proofs.Shapes.{forms-count}
-use Rattle.theorems.proofs.Listing.{none-some, some-inj}
+use Rattle.theorems.proofs.Listing.{none-some, some-same}
 use Rattle.theorems.proofs.Numbers.{at-snoc, every-has}
 
 infixr 30 _⊕_
@@ -92,7 +91,7 @@ some-false {A} p (y ∷ l) j x h e = go (λ i q w. some-false p l i x q w) (p y)
   where
     go : ((i : ℕ) → some p l ≡ false → at l i ≡ Some x → p x ≡ false) → (b : Bool) → p y ≡ b → elim b [ true ↦ true | false ↦ some p l ] ≡ false → (i : ℕ) → at (y ∷ l) i ≡ Some x → p x ≡ false
     go ih true q w i u = absurd (true≢false w)
-    go ih false q w zero u = sym (ap p (some-inj y x u)) ∙ q
+    go ih false q w zero u = sym (ap p (some-same y x u)) ∙ q
     go ih false q w (suc i) u = ih i w u
 
 signs-same : (g h : Sign) → flip (sameSign g h) ≡ false → g ≡ h
@@ -125,7 +124,7 @@ first-of (u ∷ vs) r i v e q = go (λ k h. first-of vs r k v h q) (eqb (u .rank
     go : ((k : ℕ) → at vs k ≡ Some v → (j : ℕ) × (w : Variable) × (at vs j ≡ Some w) × (w .rank ≡ r) × (signOfRank (rankOf vs r) ≡ w .sign)) → (b : Bool) → eqb (u .rank) r ≡ b → (k : ℕ) → at (u ∷ vs) k ≡ Some v →
         (j : ℕ) × (w : Variable) × (at (u ∷ vs) j ≡ Some w) × (w .rank ≡ r) × (signOfRank (elim b [ true ↦ u ∷ rankOf vs r | false ↦ rankOf vs r ]) ≡ w .sign)
     go ih true h k d = (0, u, refl, eqb-true (u .rank) r h, refl)
-    go ih false h zero d = absurd (true≢false (sym (eq-eqb (u .rank) r (ap (λ (z : Variable). z .rank) (some-inj u v d) ∙ q)) ∙ h))
+    go ih false h zero d = absurd (true≢false (sym (eq-eqb (u .rank) r (ap (λ (z : Variable). z .rank) (some-same u v d) ∙ q)) ∙ h))
     go ih false h (suc k) d = let (j, w, a, b, c) = ih k d in (suc j, w, a, b, c)
 
 pub one-sign : (vs : List Variable) → OneSign vs → Every (λ (v : Variable). v .sign ≡ signOfRank (rankOf vs (v .rank))) vs

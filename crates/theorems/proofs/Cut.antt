@@ -1,15 +1,14 @@
 -- Terms with their kinds changed, parameters removed and renumbered, and known ones replaced by values.
-use Prim.Native.Nat.{ℕ, zero, suc, _+_, _<_, _≤_}
-use mathlib.Core.Path.{_≡_, refl, sym, _∙_, ap, ap₂, subst}
-use mathlib.Core.Bool.{Bool, true, false, _&&_, false≢true, not as flip}
-use mathlib.Core.List.{List, [], _∷_, _++_, map}
-use native.Mathlib.Omega.{arith}
-use lib.Dec.{eqb, ltb}
+use Prim.Native.Nat.{ℕ, zero, suc}
+use mathlib.Core.Path.{_≡_, refl, sym, _∙_, ap, ap₂}
+use mathlib.Core.Bool.{Bool, true, false, false≢true}
+use mathlib.Core.List.{List, [], _∷_, map}
+use lib.Dec.{ltb}
 use lib.ListN.{length, getD}
 use Rattle.std.proofs.shelf.Tests.{and-parts, and-from}
 use Rattle.std.specs.declared.option.Option.{Option}
 use Rattle.std.specs.declared.option.Option.the-variants.{None, Some}
-use Rattle.definitions.specs.Lists.{at, strike, place, is-some, or-else, mapFrom}
+use Rattle.definitions.specs.Lists.{at, strike, place, or-else}
 use Rattle.definitions.specs.Alg.{Alg, within}
 use Rattle.definitions.specs.Systems.{Kind, parameter, variable, value, operation, not, and, or, equal, Term, Terms, node, none, more, term, terms, fold, folds}
 use Rattle.definitions.specs.Values.{kindKnown, valueOf, valuesOf}
@@ -18,7 +17,7 @@ use Rattle.definitions.specs.ReadSystem.{Scope}
 use Rattle.definitions.specs.Fits.{Fits, fit-parameter, fit-variable, fit-value, fit-operation, fit-not, fit-and, fit-or, fit-equal, FitsArgs, fit-none, fit-more, TermsFit, Every}
 use Rattle.definitions.specs.Constants.{kindFor}
 use Rattle.theorems.proofs.Knows.{Under, same, unknown, Unders, getD-under}
-use Rattle.theorems.proofs.RangesC.{some-same, none-some}
+use Rattle.theorems.proofs.Listing.{none-some}
 
 -- every kind in a term
 abbrev mutual
@@ -186,28 +185,6 @@ module _ (a : Alg) (ss : List ℕ) (ps : List ℕ) (ks : List (Option ℕ)) (vs 
       mapped-fold (onParameter (kindFor ss ks)) (kindKnown a (map Some ps) (map Some vs)) (kindKnown a (map Some ps) (map Some vs)) t (on-any kind-inserted t)
 
 -- lists by their numbers
-pub getD-at : {A : Type 0} (d : A) (xs : List A) (n : ℕ) (x : A) → at xs n ≡ Some x → getD xs n d ≡ x
-getD-at d [] n x e = absurd (none-some x e)
-getD-at d (y ∷ xs) zero x e = some-same y x e
-getD-at d (y ∷ xs) (suc n) x e = getD-at d xs n x e
-
-pub at-mapFrom : {A B : Type 0} (k : ℕ) (f : ℕ → A → B) (xs : List A) (n : ℕ) (x : A) → at xs n ≡ Some x → at (mapFrom k f xs) n ≡ Some (f (k + n) x)
-at-mapFrom k f [] n x e = absurd (none-some x e)
-at-mapFrom k f (y ∷ xs) zero x e = ap₂ (λ m z. Some (f m z)) (omega arith) (some-same y x e)
-at-mapFrom k f (y ∷ xs) (suc n) x e = at-mapFrom (suc k) f xs n x e ∙ ap (λ m. Some (f m x)) (omega arith)
-
-pub mapFrom-twice : {A B C : Type 0} (k : ℕ) (f : ℕ → B → C) (g : ℕ → A → B) (xs : List A) → mapFrom k f (mapFrom k g xs) ≡ mapFrom k (λ i x. f i (g i x)) xs
-mapFrom-twice k f g [] = refl
-mapFrom-twice k f g (x ∷ xs) = ap (λ z. f k (g k x) ∷ z) (mapFrom-twice (suc k) f g xs)
-
-pub map-twice : {A B C : Type 0} (f : B → C) (g : A → B) (xs : List A) → map f (map g xs) ≡ map (λ x. f (g x)) xs
-map-twice f g [] = refl
-map-twice f g (x ∷ xs) = ap (λ z. f (g x) ∷ z) (map-twice f g xs)
-
-pub every-mapped : {A B : Type 0} (P : B → Type 0) (f : A → B) (xs : List A) → Every (λ x. P (f x)) xs → Every P (map f xs)
-every-mapped P f [] h = tt
-every-mapped P f (x ∷ xs) h = (h .0, every-mapped P f xs (h .1))
-
 -- terms that keep their values, in a list
 pub same-values : (a : Alg) (ps vs : List ℕ) (f : Term → Term) (ts : List Term) → ((t : Term) → valueOf a ps vs (f t) ≡ valueOf a ps vs t) →
     valuesOf a ps vs (map f ts) ≡ valuesOf a ps vs ts

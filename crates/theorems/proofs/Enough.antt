@@ -1,17 +1,18 @@
--- The rounds of an equation's block suffice.
-use Prim.Native.Nat.{ℕ, zero, suc, _+_, _*_, _<_, _≤_}
-use mathlib.Core.Path.{_≡_, refl, sym, _∙_, ap, ap₂, subst}
-use mathlib.Core.Bool.{Bool, true, false, _&&_, false≢true}
-use mathlib.Core.List.{List, [], _∷_, _++_, map, List·Memᴰ, List·Memᴰ·head, Memᴰ·map, Memᴰ·cast, Memᴰ·append-left, Memᴰ·append-right}
+-- The rounds of an equation's block, and of a rank's, suffice.
+use Prim.Native.Nat.{ℕ, zero, suc, _+_, _*_, _<_}
+use mathlib.Core.Path.{_≡_, refl, _∙_, ap}
+use mathlib.Core.Bool.{Bool, true, false, false≢true}
+use mathlib.Core.List.{List, [], _∷_, _++_, map, List·Memᴰ, List·Memᴰ·head, List·Memᴰ·tail, Memᴰ·map, Memᴰ·cast, Memᴰ·append-left, Memᴰ·append-right}
 use native.Mathlib.Nat.{one-mul, le-refl, suc-mul}
 use native.Mathlib.Decide.{decLt}
 use native.Mathlib.Omega.{arith}
 use lib.Dec.{eqb, ltb}
 use lib.ListN.{length, length-append, length-map}
 use Rattle.std.proofs.shelf.Tests.{ltb-true, eqb-true, and-parts}
-use Rattle.definitions.specs.Lists.{product, mapFrom}
+use Rattle.definitions.specs.Lists.{at, product, mapFrom}
+use Rattle.definitions.specs.Boolean.{Variable, rankOf, hasRank, rankBlock}
 use Rattle.definitions.specs.Alg.{Alg, within}
-use Rattle.definitions.specs.Systems.{Equation, System}
+use Rattle.definitions.specs.Systems.{Equation}
 use Rattle.definitions.specs.Truth.{Instance, sizesOf, blockOf}
 use Rattle.definitions.specs.Order.{truths, Enough}
 use Rattle.definitions.specs.Fits.{Every}
@@ -65,3 +66,38 @@ block-enough a i e =
 pub blocks-enough : (a : Alg) (k : ℕ) (es : List Equation) → Every (Enough truths) (mapFrom k (blockOf a) es)
 blocks-enough a k [] = tt
 blocks-enough a k (e ∷ es) = (block-enough a k e, blocks-enough a (suc k) es)
+
+-- the numbers of the variables of a rank, the first variable's being k
+abbrev pub places : List Variable → ℕ → List ℕ
+places [] r = []
+places (v ∷ vs) r = elim (eqb (v .rank) r) [ true ↦ 0 ∷ map suc (places vs r) | false ↦ map suc (places vs r) ]
+
+places-mem : (vs : List Variable) (r j : ℕ) → hasRank (at vs j) r ≡ true → List·Memᴰ j (places vs r)
+places-mem [] r j h = absurd (false≢true h)
+places-mem (v ∷ vs) r zero h = rw (h, places) (List·Memᴰ·head refl)
+places-mem (v ∷ vs) r (suc j) h = go (places-mem vs r j h) (eqb (v .rank) r)
+  where
+    go : List·Memᴰ j (places vs r) → (b : Bool) → List·Memᴰ (suc j) (elim b [ true ↦ 0 ∷ map suc (places vs r) | false ↦ map suc (places vs r) ])
+    go m true = List·Memᴰ·tail (Memᴰ·map suc m)
+    go m false = Memᴰ·map suc m
+
+places-long : (vs : List Variable) (r : ℕ) → length (places vs r) ≡ length (rankOf vs r)
+places-long [] r = refl
+places-long (v ∷ vs) r = go (places-long vs r) (eqb (v .rank) r)
+  where
+    go : length (places vs r) ≡ length (rankOf vs r) → (b : Bool) →
+        length {A = ℕ} (elim b [ true ↦ 0 ∷ map suc (places vs r) | false ↦ map suc (places vs r) ]) ≡ length {A = Variable} (elim b [ true ↦ v ∷ rankOf vs r | false ↦ rankOf vs r ])
+    go ih true = ap suc (length-map (places vs r) suc ∙ ih)
+    go ih false = length-map (places vs r) suc ∙ ih
+
+pub rank-enough : (vs : List Variable) (r : ℕ) → Enough truths (rankBlock vs r)
+rank-enough vs r =
+    record {
+      members = places vs r;
+      all = λ j h. places-mem vs r j h;
+      rounds-le = rw (one-mul, places-long) (le-refl (length (rankOf vs r)));
+    }
+
+pub ranks-enough : (vs : List Variable) (rs : List ℕ) → Every (Enough truths) (map (rankBlock vs) rs)
+ranks-enough vs [] = tt
+ranks-enough vs (r ∷ rs) = (rank-enough vs r, ranks-enough vs rs)

@@ -1,12 +1,10 @@
 -- The worked examples hold: each is computed.
-use mathlib.Core.Path.{_≡_, refl, ap}
-use mathlib.Core.List.{List, [], _∷_}
-use Prim.Native.Nat.{ℕ}
+use mathlib.Core.Path.{refl, ap}
 use native.Mathlib.Omega.{arith}
 use lib.ListN.{length}
 use Rattle.definitions.specs.Written.{written}
 use Rattle.definitions.specs.Calls.{Settles, equal, again}
-use Rattle.definitions.specs.Past.{Past, fresh, call}
+use Rattle.definitions.specs.Past.{fresh, call}
 use Rattle.theorems.specs.Sample.{four, sample}
 use Rattle.theorems.specs.Examples.{settledFile, expandedFile, Examples}
 use Rattle.theorems.proofs.Histories.{written-bytes}

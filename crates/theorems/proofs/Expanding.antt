@@ -1,8 +1,8 @@
--- Expanding keeps the verdict.
+-- Expanding: the file written is read back, its first variable has the verdict, and it is declined exactly where the instances or the bytes are too many.
 use Rattle.faults.specs.declared.ExpandFault.{ExpandFault}
 use Rattle.faults.specs.declared.ExpandFault.the-variants.{Refused}
 use Rattle.faults.specs.declared.Reason.the-variants.{TooManyInstances, BooleanTooLong}
-use mathlib.Core.Path.{_≡_, refl, sym, _∙_, ap, ap₂, subst, subst₂}
+use mathlib.Core.Path.{_≡_, refl, sym, _∙_, ap, subst}
 use mathlib.Core.Bool.{Bool, true, false, _&&_}
 use mathlib.Core.List.{List, [], _∷_, map}
 use Prim.Native.Nat.{ℕ, zero, suc, _<_, _≤_}
@@ -14,32 +14,32 @@ use Rattle.std.specs.declared.option.Option.{Option}
 use Rattle.std.specs.declared.option.Option.the-variants.{None, Some}
 use Rattle.definitions.specs.Alg.{Alg, Lawful}
 use Rattle.definitions.specs.Systems.{System}
-use Rattle.definitions.specs.Truth.{Instance, verdict}
+use Rattle.definitions.specs.Truth.{verdict}
 use Rattle.definitions.specs.Lists.{at, upTo}
 use Rattle.definitions.specs.Algebras.{truth}
 use Rattle.definitions.specs.Reading.{got}
-use Rattle.definitions.specs.Boolean.{comes, Variable, variableOf, expanded, solves, Expanded, made, refused, shipped, expandSystem, booleanWritten, booleanReading}
+use Rattle.definitions.specs.Boolean.{comes, Variable, variableOf, expanded, solves, Expanded, made, refused, shipped, booleanWritten, booleanReading}
 use Rattle.definitions.specs.Fits.{Every, SystemFits}
-use Rattle.theorems.specs.ExpandLaws.{Expands, Variables-are-reached-instances, variableTruths, Expansion-fits, Ships, Expansion-read-and-solved, Many, Declines, Expand-declined-rightly}
+use Rattle.theorems.specs.ExpandLaws.{Expands, Variables-are-reached-instances, variableTruths, Expansion-fits, Ships, Expansion-read-and-solved, Many, Declines, Expand-declined-rightly, Expand-obeyed-rightly}
 use Rattle.definitions.specs.FileFits.{BooleanFits}
 use Rattle.definitions.specs.Reach.{ReachedInstance}
-use Rattle.theorems.proofs.Listing.{none-some, some-inj, every-at}
-use Rattle.theorems.proofs.Tokens.{InstanceFits, start-fits, tokens-fit}
-use Rattle.theorems.proofs.Numbers.{Numbering, complete, comes-keep, comes-distinct, one-distinct, tokens-reached}
+use Rattle.theorems.proofs.Listing.{none-some, some-same, every-at, and-left, and-right}
+use Rattle.theorems.specs.PassLaws.{InRange}
+use Rattle.theorems.proofs.Tokens.{start-fits, tokens-fit}
+use Rattle.theorems.proofs.Numbers.{complete, comes-keep, comes-distinct, one-distinct, tokens-reached}
 use Rattle.theorems.proofs.Expands.{expands}
-use Rattle.theorems.proofs.Blocks.{and-left, and-right}
 use Rattle.theorems.proofs.Shapes.{variables-fit}
 use Rattle.theorems.proofs.BooleanBack.{boolean-back}
 
 module _ (a : Alg) (law : Lawful a) (s : System) (fits : SystemFits a s) where
-  pub all-fit : (n : ℕ) → Every (InstanceFits a s) (comes n a s 0 ((s .start, s .values) ∷ []))
-  all-fit n = comes-keep a s (InstanceFits a s) (tokens-fit a law s fits) n 0 ((s .start, s .values) ∷ []) (start-fits a law s fits, tt)
+  pub all-fit : (n : ℕ) → Every (InRange a s) (comes n a s 0 ((s .start, s .values) ∷ []))
+  all-fit n = comes-keep a s (InRange a s) (tokens-fit a law s fits) n 0 ((s .start, s .values) ∷ []) (start-fits a law s fits, tt)
 
   by-count : (n : ℕ) (vs : List Variable) (b : Bool) → leb (length (comes n a s 0 ((s .start, s .values) ∷ []))) n ≡ b →
       _≡_ {A = Option (List Variable)} (elim b [ true ↦ Some (map (variableOf a s (comes n a s 0 ((s .start, s .values) ∷ []))) (comes n a s 0 ((s .start, s .values) ∷ []))) | false ↦ None ]) (Some vs) →
       Expands a s vs
   by-count n vs true l e =
-      subst (Expands a s) (some-inj _ vs e)
+      subst (Expands a s) (some-same _ vs e)
       (expands a law s fits (comes n a s 0 ((s .start, s .values) ∷ [])) (complete a s n (leb-true (length (comes n a s 0 ((s .start, s .values) ∷ []))) n l)) (all-fit n))
   by-count n vs false l e = none-some vs e
 
@@ -48,7 +48,7 @@ module _ (a : Alg) (law : Lawful a) (s : System) (fits : SystemFits a s) where
       BooleanFits vs
   fits-by-count n vs true u l e =
       let k : length (comes n a s 0 ((s .start, s .values) ∷ [])) ≤ n = leb-true (length (comes n a s 0 ((s .start, s .values) ∷ []))) n l in
-      subst BooleanFits (some-inj _ vs e)
+      subst BooleanFits (some-same _ vs e)
       (variables-fit a law s fits (comes n a s 0 ((s .start, s .values) ∷ [])) (complete a s n k) (all-fit n) (omega arith))
   fits-by-count n vs false u l e = none-some vs e
 
@@ -126,7 +126,7 @@ module _ (a : Alg) (s : System) where
   come-many n m h =
       record {
         instances = comes n a s 0 ((s .start, s .values) ∷ []);
-        only = λ k x e. every-at (ReachedInstance a s) (comes n a s 0 ((s .start, s .values) ∷ [])) k x (comes-keep a s (ReachedInstance a s) (tokens-reached a s) n 0 ((s .start, s .values) ∷ []) (ReachedInstance.start, tt)) e;
+        only = λ k x e. every-at (ReachedInstance a s) (comes n a s 0 ((s .start, s .values) ∷ [])) k x e (comes-keep a s (ReachedInstance a s) (tokens-reached a s) n 0 ((s .start, s .values) ∷ []) (ReachedInstance.start, tt));
         once = comes-distinct a s n 0 ((s .start, s .values) ∷ []) (one-distinct a s (s .start, s .values));
         many = h;
       }
@@ -139,7 +139,7 @@ module _ (a : Alg) (s : System) where
   some-many : (n m : ℕ) (vs : List Variable) (b : Bool) → m < length vs →
       _≡_ {A = Option (List Variable)} (elim b [ true ↦ Some (map (variableOf a s (comes n a s 0 ((s .start, s .values) ∷ []))) (comes n a s 0 ((s .start, s .values) ∷ []))) | false ↦ None ]) (Some vs) → Many a s m
   some-many n m vs true h e =
-      come-many n m (subst (λ k. m < k) (sym (ap length (some-inj _ vs e)) ∙ length-map (comes n a s 0 ((s .start, s .values) ∷ [])) (variableOf a s (comes n a s 0 ((s .start, s .values) ∷ [])))) h)
+      come-many n m (subst (λ k. m < k) (sym (ap length (some-same _ vs e)) ∙ length-map (comes n a s 0 ((s .start, s .values) ∷ [])) (variableOf a s (comes n a s 0 ((s .start, s .values) ∷ [])))) h)
   some-many n m vs false h e = none-some vs e
 
   declining : (places room : ℕ) (vs : List Variable) → expanded a s ≡ Some vs → (r : ExpandFault) (b c : Bool) → leb (length vs) places ≡ b →
@@ -160,3 +160,59 @@ expand-declines a s places room r e = go (expanded a s) refl e
     go None w k = same-reason a s places room (Refused TooManyInstances) r k (Declines.too-many (none-many a s 4096 _ refl w))
     go (Some vs) w k =
         declining a s places room vs w r (leb (length vs) places) (leb (length (booleanWritten vs)) room && leb (length (booleanWritten vs)) 65535) refl refl k
+
+-- obeyed only where the instances are few
+without : {A : Type 0} → ℕ → List A → List A
+without k [] = []
+without zero (y ∷ ys) = ys
+without (suc k) (y ∷ ys) = y ∷ without k ys
+
+without-long : {A : Type 0} (ys : List A) (k : ℕ) (y : A) → at ys k ≡ Some y → suc (length (without k ys)) ≡ length ys
+unfolding without
+without-long [] k y e = none-some y e
+without-long (z ∷ ys) zero y e = refl
+without-long (z ∷ ys) (suc k) y e = ap suc (without-long ys k y e)
+
+without-has : {A : Type 0} (ys : List A) (k j : ℕ) (y : A) → at ys j ≡ Some y → (j ≡ k → ⊥) → (i : ℕ) × (at (without k ys) i ≡ Some y)
+unfolding without
+without-has [] k j y e d = none-some y e
+without-has (z ∷ ys) zero zero y e d = absurd (d refl)
+without-has (z ∷ ys) zero (suc j) y e d = (j, e)
+without-has (z ∷ ys) (suc k) zero y e d = (0, e)
+without-has (z ∷ ys) (suc k) (suc j) y e d = let (i, p) = without-has ys k j y e (λ q. d (ap suc q)) in (suc i, p)
+
+-- distinct members that all stand in another list are no more than it has
+pigeons : {A : Type 0} (xs ys : List A) → ((i j : ℕ) (x : A) → at xs i ≡ Some x → at xs j ≡ Some x → i ≡ j) →
+    ((i : ℕ) (x : A) → at xs i ≡ Some x → (k : ℕ) × (at ys k ≡ Some x)) → length xs ≤ length ys
+pigeons [] ys once has = omega arith
+pigeons {A} (x ∷ xs) ys once has =
+    let (k, p) = has 0 x refl in
+    omega (arith, without-long ys k x p, pigeons xs (without k ys) (λ i j y e f. suc-same (once (suc i) (suc j) y e f)) (rest k p))
+  where
+    suc-same : {i j : ℕ} → suc i ≡ suc j → i ≡ j
+    suc-same e = omega arith
+
+    rest : (k : ℕ) → at ys k ≡ Some x → (i : ℕ) (y : A) → at xs i ≡ Some y → (j : ℕ) × (at (without k ys) j ≡ Some y)
+    rest k p i y e =
+        let (j, q) = has (suc i) y e in
+        without-has ys k j y q (λ w. let same : y ≡ x = some-same y x (sym q ∙ ap (at ys) w ∙ p) in
+        let z : suc i ≡ 0 = once (suc i) 0 x (e ∙ ap Some same) refl in omega arith)
+
+not-many : (a : Alg) (s : System) (vs : List Variable) → Expands a s vs → (n : ℕ) → length vs ≤ n → Many a s n → ⊥
+not-many a s vs h n l m =
+    omega (
+      arith,
+      l,
+      m .many,
+      pigeons (m .instances) (h .instances) (m .once) (λ i x e. h .every x (m .only i x e)),
+      ap length (h .variables),
+      length-map (h .instances) (variableOf a s (h .instances)),
+    )
+
+pub expand-few : Expand-obeyed-rightly
+expand-few a law s fits places room g n e =
+    let h = expand-ships a law s fits places room g n e in
+    record {
+      few = not-many a s (h .variables) (h .expands) 4096 (h .fits .few);
+      placed = not-many a s (h .variables) (h .expands) places (subst (λ k. k ≤ places) (sym (h .long)) (h .placed));
+    }

@@ -1,40 +1,39 @@
 -- The variables that expanding makes have the truths of their instances.
-use mathlib.Core.Path.{_≡_, refl, sym, _∙_, ap, ap₂, subst, fun-ext}
+use mathlib.Core.Path.{_≡_, refl, sym, _∙_, ap, subst}
 use mathlib.Core.Bool.{Bool, true, false, _&&_, true≢false, false≢true}
-use mathlib.Core.List.{List, [], _∷_, _++_, map}
+use mathlib.Core.List.{List, [], _∷_, map}
 use Prim.Native.Nat.{ℕ, zero, suc, _+_, _<_, _≤_}
 use native.Mathlib.Omega.{arith}
-use native.Mathlib.Nat.{le-refl, zero-add}
-use lib.Dec.{eqb, leb}
+use native.Mathlib.Nat.{zero-add}
+use lib.Dec.{eqb}
 use lib.ListN.{length}
-use Rattle.std.proofs.shelf.Tests.{eqb-true, leb-true}
+use Rattle.std.proofs.shelf.Tests.{eqb-true}
 use Rattle.std.specs.declared.option.Option.{Option}
 use Rattle.std.specs.declared.option.Option.the-variants.{None, Some}
-use Rattle.definitions.specs.Lists.{at, bind, some, keep, from, upTo, mapFrom}
+use Rattle.definitions.specs.Lists.{at, bind, some, keep, from, mapFrom}
 use Rattle.definitions.specs.Alg.{Alg, Lawful, within}
-use Rattle.definitions.specs.Solution.{Sign, least, greatest, Block, solved}
+use Rattle.definitions.specs.Solution.{Sign}
 use Rattle.definitions.specs.Systems.{Equation, System}
-use Rattle.definitions.specs.Order.{Below, Monotone, Enough}
+use Rattle.definitions.specs.Order.{Below, Monotone}
 use Rattle.definitions.specs.Order as order
 use Rattle.fixpoint.specs.Laws.{Agree, Matched}
 use Rattle.definitions.specs.Truth.{Instance, sizesOf, blockOf, body, truths, verdict}
-use Rattle.definitions.specs.Boolean.{Form, said, vars, form, numbering, numberIn, mostInstances, Variable, signAt, variableOf, expanded, rankOf, signOfRank, hasRank, rankBlock, bodyAt, usedRanks}
+use Rattle.definitions.specs.Boolean.{vars, form, numberIn, Variable, signAt, variableOf, rankOf, signOfRank, hasRank, rankBlock, bodyAt, usedRanks}
 use Rattle.definitions.specs.Fits.{Every, SystemFits}
 use Rattle.definitions.specs.Reach.{ReachedInstance}
-use Rattle.theorems.specs.ExpandLaws.{variableTruths, Expands, Variables-are-reached-instances}
-use Rattle.theorems.proofs.Listing.{none-some, some-inj, at-map, every-at, every-map, every-all, every-with}
+use Rattle.theorems.specs.ExpandLaws.{variableTruths, Expands}
+use Rattle.theorems.proofs.Listing.{none-some, some-same, at-map, every-at, every-mapped, every-of, every-with}
 use Rattle.fixpoint.proofs.Transfer.{transfer}
-use Rattle.theorems.proofs.Ranges.{ranged-within}
 use Rattle.theorems.proofs.Forms.{form-said, said-mono, said-renamed, said-agree}
 use Rattle.fixpoint.proofs.Truths.{implies}
 use Rattle.theorems.proofs.Monotone.{body-mono}
-use Rattle.theorems.proofs.Blocks.{equations-enough, ranks-enough}
-use Rattle.theorems.proofs.Tokens.{InstanceFits, start-fits, tokens-fit}
-use Rattle.theorems.proofs.Numbers.{Has, Numbering, complete, all-reached, number-at, every-has}
+use Rattle.theorems.proofs.Enough.{blocks-enough, ranks-enough}
+use Rattle.theorems.specs.PassLaws.{InRange}
+use Rattle.theorems.proofs.Numbers.{Has, Numbering, all-reached, number-at}
 
 pub some-at : {A : Type 0} (p : A → Bool) (l : List A) (j : ℕ) (x : A) → at l j ≡ Some x → p x ≡ true → some p l ≡ true
 some-at p [] j x e h = none-some x e
-some-at p (y ∷ l) zero x e h = ap (λ b. elim b [ true ↦ true | false ↦ some p l ]) (ap p (some-inj y x e) ∙ h)
+some-at p (y ∷ l) zero x e h = ap (λ b. elim b [ true ↦ true | false ↦ some p l ]) (ap p (some-same y x e) ∙ h)
 some-at p (y ∷ l) (suc j) x e h = go (some-at p l j x e h) (p y)
   where
     go : some p l ≡ true → (b : Bool) → elim b [ true ↦ true | false ↦ some p l ] ≡ true
@@ -59,7 +58,7 @@ rank-sign g k (v ∷ vs) h u = go (rank-sign g k vs (h .1)) (eqb (v .rank) k) re
     go ih true e m = h .0 ∙ ap g (eqb-true (v .rank) k e)
     go ih false e m = ih m
 
-module _ (a : Alg) (law : Lawful a) (s : System) (fits : SystemFits a s) (r : List Instance) (n : Numbering a s r) (fit : Every (InstanceFits a s) r) where
+module _ (a : Alg) (law : Lawful a) (s : System) (fits : SystemFits a s) (r : List Instance) (n : Numbering a s r) (fit : Every (InRange a s) r) where
   abbrev Rel : Instance → ℕ → Type 0
   Rel x j = at r j ≡ Some x
 
@@ -89,7 +88,7 @@ module _ (a : Alg) (law : Lawful a) (s : System) (fits : SystemFits a s) (r : Li
     where
       go : (b : Bool) → eqb (x .0) k ≡ b → b ≡ false
       go true h =
-          let f = every-at (InstanceFits a s) r j x fit e in
+          let f = every-at (InRange a s) r j x e fit in
           none-some (f .equation) (sym u ∙ ap (at (s .equations)) (sym (eqb-true (x .0) k h)) ∙ f .there)
       go false h = refl
 
@@ -99,13 +98,13 @@ module _ (a : Alg) (law : Lawful a) (s : System) (fits : SystemFits a s) (r : Li
     where
       go : (b : Bool) → eqb (x .0) k ≡ b → (b && within (sizesOf a e) (x .1)) ≡ eqb (x .0) k
       go true q =
-          let f = every-at (InstanceFits a s) r j x fit h in
-          let w : f .equation ≡ e = some-inj (f .equation) e (sym (f .there) ∙ ap (at (s .equations)) (eqb-true (x .0) k q) ∙ there) in
-          subst (λ (z : Equation). within (sizesOf a z) (x .1) ≡ true) w (ranged-within (f .ranged)) ∙ sym q
+          let f = every-at (InRange a s) r j x h fit in
+          let w : f .equation ≡ e = some-same (f .equation) e (sym (f .there) ∙ ap (at (s .equations)) (eqb-true (x .0) k q) ∙ there) in
+          subst (λ (z : Equation). within (sizesOf a z) (x .1) ≡ true) w (f .fine) ∙ sym q
       go false q = sym q
 
   signs : Every (λ (v : Variable). v .sign ≡ signAt (at (s .equations) (v .rank))) (map (variableOf a s r) r)
-  signs = every-map (λ (v : Variable). v .sign ≡ signAt (at (s .equations) (v .rank))) (variableOf a s r) r (every-all (λ x. signAt (at (s .equations) (x .0)) ≡ signAt (at (s .equations) (x .0))) r (λ x. refl))
+  signs = every-mapped (λ (v : Variable). v .sign ≡ signAt (at (s .equations) (v .rank))) (variableOf a s r) r (every-of r (λ x. refl))
 
   matches : (m k : ℕ) (es : List Equation) → length es ≤ m → ((j : ℕ) → at es j ≡ at (s .equations) (k + j)) →
       Matched Rel (mapFrom k (blockOf a) es) (map (rankBlock (map (variableOf a s r) r)) (keep (λ q. some (λ (v : Variable). eqb (v .rank) q) (map (variableOf a s r) r)) (from k m)))
@@ -144,7 +143,7 @@ module _ (a : Alg) (law : Lawful a) (s : System) (fits : SystemFits a s) (r : Li
       sym (transfer Instance ℕ Bool Bool order.truths order.truths (λ p q. p ≡ q) Rel refl refl
       (body a s) (λ f j. bodyAt (at (map (variableOf a s r) r) j) f) (body-mono a s) (variables-mono (map (variableOf a s r) r)) agrees
       (mapFrom 0 (blockOf a) (s .equations)) (map (rankBlock (map (variableOf a s r) r)) (usedRanks (map (variableOf a s r) r)))
-      (equations-enough a 0 (s .equations)) (ranks-enough (map (variableOf a s r) r) (usedRanks (map (variableOf a s r) r)))
+      (blocks-enough a 0 (s .equations)) (ranks-enough (map (variableOf a s r) r) (usedRanks (map (variableOf a s r) r)))
       (matches 32 0 (s .equations) (let f : length (s .equations) < 32 = fits .few in omega arith) (λ j. ap (at (s .equations)) (sym (zero-add j))))
       (λ _. false) (λ _. false) (λ _ _ _. refl) x k e)
 
@@ -153,7 +152,7 @@ module _ (a : Alg) (law : Lawful a) (s : System) (fits : SystemFits a s) (r : Li
       record {
         instances = r;
         variables = refl;
-        only = λ k x e. every-at (ReachedInstance a s) r k x (n .reached) e;
+        only = λ k x e. every-at (ReachedInstance a s) r k x e (n .reached);
         every = λ x h. all-reached a s r n h;
         once = n .once;
         first = n .first;

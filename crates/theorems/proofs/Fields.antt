@@ -3,20 +3,20 @@ use Rattle.faults.specs.declared.Reason.{Reason}
 use Rattle.faults.specs.declared.Reason.the-variants.{EndsInField, WrongSort}
 use mathlib.Core.Path.{_≡_, refl, sym, _∙_, ap, ap₂, subst}
 use mathlib.Core.Bool.{Bool, true, false}
-use mathlib.Core.List.{List, [], _∷_, _++_, map}
+use mathlib.Core.List.{List, [], _∷_, _++_}
 use Prim.Native.Nat.{ℕ, zero, suc, _+_, _-_, _*_, _/_, _%_, _^_, _<_, _≤_}
-use native.Mathlib.Nat.{add-suc, add-zero, add-assoc, mod-eq-of-lt, mod-mod, mod-lt, pow-suc, mul-comm}
+use native.Mathlib.Nat.{add-zero, mod-eq-of-lt, mod-mod, pow-suc, mul-comm}
 use lib.Arith.{digits-lt}
 use native.Mathlib.Numerals.{one-add}
 use native.Mathlib.Omega.{arith}
 use lib.Dec.{leb, ltb, eqb}
-use lib.ListN.{length, length-append}
+use lib.ListN.{length}
 use lib.Pow.{mod-pow-add, high, low}
 use Rattle.std.proofs.shelf.Tests.{leb-true, le-leb, eqb-true, lt-ltb, ltb-true}
 use Rattle.definitions.specs.Bits.{bitAt, field, bits, Stands}
 use Rattle.std.specs.declared.option.Option.{Option}
 use Rattle.std.specs.declared.option.Option.the-variants.{None, Some}
-use Rattle.definitions.specs.Reading.{Step, next, stop, Reader, take, follow, given, must, below}
+use Rattle.definitions.specs.Reading.{Step, next, stop, take, follow, given, must, below}
 use Rattle.definitions.specs.ReadSystem.{suits}
 use Rattle.definitions.specs.Fits.{Needs}
 

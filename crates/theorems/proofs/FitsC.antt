@@ -1,8 +1,8 @@
 -- What the pass C writes fits.
 use Prim.Native.Nat.{ℕ, zero, suc, _+_, _<_, _≤_}
-use mathlib.Core.Path.{_≡_, refl, sym, _∙_, ap, ap₂, subst, subst₂}
-use mathlib.Core.Bool.{Bool, true, false, true≢false, false≢true, not as flip}
-use mathlib.Core.List.{List, [], _∷_, _++_, map}
+use mathlib.Core.Path.{_≡_, refl, sym, _∙_, ap, subst, subst₂}
+use mathlib.Core.Bool.{Bool, true, false, not as flip}
+use mathlib.Core.List.{List, [], _∷_, map}
 use native.Mathlib.Omega.{arith}
 use native.Mathlib.Nat.{zero-add}
 use lib.Dec.{eqb}
@@ -11,18 +11,16 @@ use Rattle.std.specs.declared.option.Option.{Option}
 use Rattle.std.specs.declared.option.Option.the-variants.{None, Some}
 use Rattle.definitions.specs.Lists.{at, flat, is-some, mapFrom, strike, place, times}
 use Rattle.definitions.specs.Alg.{Alg, Lawful}
-use Rattle.definitions.specs.Systems.{Kind, parameter, variable, value, operation, not, and, or, equal, Term, node, none, Quantified, Occurrence, Clause, Equation, System}
+use Rattle.definitions.specs.Systems.{Kind, parameter, value, Term, node, none, Occurrence, Clause, Equation, System}
 use Rattle.definitions.specs.ReadSystem.{Scope, Header, scope}
 use Rattle.definitions.specs.Values.{known, isFalse}
-use Rattle.definitions.specs.Terms.{truthTerm, onParameter, replaced, onOccurrence, onClause, cutEquation}
+use Rattle.definitions.specs.Terms.{onParameter, replaced, onOccurrence, onClause, cutEquation}
 use Rattle.definitions.specs.Fits.{Every, Fits, fit-parameter, fit-value, TermsFit, ValuesFit, headerOf, SortFits, HeaderFits, OccurrenceFits, ClauseFits, BodyFits, SystemFits}
 use Rattle.definitions.specs.Constants.{Known, Knowledge, Brought, agreed, agreedAll, taken, learnt, learntAll, clauseBrings, equationBrings, allBring, brought, unreached, height, leastKnowledge, kindFor, inserted, unknownOf, passC}
-use Rattle.theorems.proofs.Stable.{every-join}
-use Rattle.theorems.proofs.Monotone.{every-map}
-use Rattle.theorems.proofs.RangesC.{some-same, none-some, InSort, known-low}
-use Rattle.theorems.proofs.Cut.{getD-at, at-mapFrom, mapFrom-twice, map-twice, strike-map, every-mapped}
-use Rattle.theorems.proofs.ShapesC.{every-at, at-map, at-mapped}
-use Rattle.theorems.proofs.Refit.{replaced-fits, replaced-twice, strike-at, place-low, strike-short, strike-every, strike-values, strike-terms, mapFrom-long, every-mapFrom, every-unmapped, value-fits}
+use Rattle.theorems.proofs.Listing.{every-append, every-map, some-same, none-some, getD-at, at-mapFrom, mapFrom-twice, map-twice, every-mapped, at-map-some, at-mapped, strike-short, mapFrom-long, every-unmapped}
+use Rattle.theorems.proofs.Ranges.{InSort, known-low}
+use Rattle.theorems.proofs.Cut.{strike-map}
+use Rattle.theorems.proofs.Refit.{replaced-fits, replaced-twice, strike-at, place-low, strike-every, strike-values, strike-terms, every-mapFrom, value-fits}
 use Rattle.theorems.proofs.KeepsC.{masks, what, inserted-sorts, unknown-kept}
 
 -- known values in the range of their sorts, as many as there are sorts
@@ -145,7 +143,7 @@ module _ (a : Alg) (law : Lawful a) where
         Every (BroughtFits a es) (flat (map (clauseBrings a ks) cs))
     clauses-bring c ks h [] f = tt
     clauses-bring c ks h (k ∷ cs) f =
-        every-join (BroughtFits a es) (clauseBrings a ks k) (flat (map (clauseBrings a ks) cs)) (clause-bring c ks h k (f .0)) (clauses-bring c ks h cs (f .1))
+        every-append (BroughtFits a es) (clauseBrings a ks k) (flat (map (clauseBrings a ks) cs)) (clause-bring c ks h k (f .0)) (clauses-bring c ks h cs (f .1))
 
     equation-bring : (e : Equation) (k : Option Known) → OneFits a e k → BodyFits a (map headerOf es) e → Every (BroughtFits a es) (equationBrings a e k)
     equation-bring e None h b = tt
@@ -159,7 +157,7 @@ module _ (a : Alg) (law : Lawful a) where
     all-bring [] K h b = tt
     all-bring (e ∷ fs) [] h b = tt
     all-bring (e ∷ fs) (k ∷ K) h b =
-        every-join (BroughtFits a es) (equationBrings a e k) (allBring a fs K) (equation-bring e k (h .0) (b .0)) (all-bring fs K (h .1) (b .1))
+        every-append (BroughtFits a es) (equationBrings a e k) (allBring a fs K) (equation-bring e k (h .0) (b .0)) (all-bring fs K (h .1) (b .1))
 
   module _ (s : System) (fit : SystemFits a s) where
     step-fits : (K : Knowledge) → AllFit a (s .equations) K → AllFit a (s .equations) (learntAll K (brought a s K))
@@ -193,7 +191,7 @@ module _ (a : Alg) (law : Lawful a) where
     header-left : (j : ℕ) (h : Header) → at (map headerOf (s .equations)) j ≡ Some h →
         (h′ : Header) × (at (map headerOf them) j ≡ Some h′) × (strike (getD (masks a s) j []) (h .sorts) ≡ h′ .sorts)
     header-left j h p =
-        let (q, eq, eh) = at-map headerOf (s .equations) j h p in (
+        let (q, eq, eh) = at-map-some headerOf (s .equations) j h p in (
           headerOf (after j q),
           at-mapped headerOf them j (after j q) (at-mapFrom 0 after (s .equations) j q eq ∙ ap (λ z. Some (after z q)) (zero-add j)),
           ap (strike (getD (masks a s) j [])) (sym (ap (λ (z : Header). z .sorts) eh) ∙ inserted-sorts q (getD (what a s) j None)),

@@ -1,23 +1,21 @@
 -- What is left after removing parameters that nothing kept depends on fits.
-use Prim.Native.Nat.{ℕ, zero, suc, _+_, _<_, _≤_}
-use mathlib.Core.Path.{_≡_, refl, sym, _∙_, ap, ap₂, subst, subst₂}
+use Prim.Native.Nat.{ℕ, _+_, _<_, _≤_}
+use mathlib.Core.Path.{_≡_, sym, _∙_, ap, subst}
 use mathlib.Core.Bool.{Bool, true, false}
-use mathlib.Core.List.{List, [], _∷_, _++_, map}
+use mathlib.Core.List.{List, [], _∷_, map}
 use native.Mathlib.Omega.{arith}
 use native.Mathlib.Nat.{zero-add}
-use lib.ListN.{length, getD, length-map}
-use Rattle.std.specs.declared.option.Option.{Option}
-use Rattle.std.specs.declared.option.Option.the-variants.{None, Some}
+use lib.ListN.{getD, length-map}
+use Rattle.std.specs.declared.option.Option.the-variants.{Some}
 use Rattle.definitions.specs.Lists.{at, mapFrom, strike, place}
 use Rattle.definitions.specs.Alg.{Alg}
-use Rattle.definitions.specs.Systems.{Kind, parameter, Term, Terms, node, none, more, term, terms, fold, folds, Occurrence, Clause, Equation, System}
+use Rattle.definitions.specs.Systems.{parameter, Term, Terms, term, terms, folds, Occurrence, Clause, Equation, System}
 use Rattle.definitions.specs.ReadSystem.{Scope, Header, scope}
 use Rattle.definitions.specs.Terms.{onParameter, replaced, onOccurrence, onClause, cutEquation, cut}
 use Rattle.definitions.specs.Fits.{Fits, fit-parameter, fit-variable, fit-value, fit-operation, fit-not, fit-and, fit-or, fit-equal, FitsArgs, fit-none, fit-more, TermsFit, ValuesFit, Every, headerOf, SortFits, HeaderFits, OccurrenceFits, ClauseFits, BodyFits, SystemFits}
-use Rattle.theorems.proofs.Monotone.{every-map}
-use Rattle.theorems.proofs.Cut.{OnKinds, OnAll, OnParameters, at-mapFrom, every-mapped}
-use Rattle.theorems.proofs.ShapesC.{every-at, every-two, at-map, at-mapped}
-use Rattle.theorems.proofs.Refit.{strike-at, place-low, strike-short, strike-every, strike-values, mapFrom-long, every-mapFrom, every-unmapped}
+use Rattle.theorems.proofs.Listing.{at-mapFrom, every-mapped, every-two, at-map-some, at-mapped, strike-short, mapFrom-long, every-unmapped}
+use Rattle.theorems.proofs.Cut.{OnKinds, OnAll, OnParameters}
+use Rattle.theorems.proofs.Refit.{strike-at, place-low, strike-every, strike-values, every-mapFrom}
 use Rattle.theorems.proofs.KeepsCut.{Keeps, ClosedClause, Closed}
 
 module _ (a : Alg) (c c′ : Scope) (ms : List Bool) (variables : (n s : ℕ) → at (c .variables) n ≡ Some s → at (c′ .variables) n ≡ Some s)
@@ -55,7 +53,7 @@ module _ (a : Alg) (s : System) (masks : List (List Bool)) (fit : SystemFits a s
   header-left : (j : ℕ) (h : Header) → at (map headerOf (s .equations)) j ≡ Some h →
       (h′ : Header) × (at (map headerOf them) j ≡ Some h′) × (strike (getD masks j []) (h .sorts) ≡ h′ .sorts)
   header-left j h p =
-      let (q, eq, eh) = at-map headerOf (s .equations) j h p in (
+      let (q, eq, eh) = at-map-some headerOf (s .equations) j h p in (
         headerOf (cutEquation masks j q),
         at-mapped headerOf them j (cutEquation masks j q) (at-mapFrom 0 (cutEquation masks) (s .equations) j q eq ∙ ap (λ z. Some (cutEquation masks z q)) (zero-add j)),
         ap (strike (getD masks j [])) (sym (ap (λ (z : Header). z .sorts) eh)),

@@ -1,25 +1,23 @@
 -- What the pass F writes fits.
-use Prim.Native.Nat.{ℕ, zero, suc, _+_, _<_, _≤_}
-use mathlib.Core.Path.{_≡_, refl, sym, _∙_, ap, ap₂, subst, subst₂}
+use Prim.Native.Nat.{ℕ, suc, _<_, _≤_}
+use mathlib.Core.Path.{_≡_, refl, sym, _∙_, ap, subst}
 use mathlib.Core.Bool.{Bool, true, false, not as flip}
-use mathlib.Core.List.{List, [], _∷_, _++_, map}
+use mathlib.Core.List.{List, [], _∷_, map}
 use native.Mathlib.Omega.{arith}
-use lib.ListN.{length, getD, length-map}
+use lib.ListN.{length, length-map}
 use Rattle.std.specs.declared.option.Option.{Option}
 use Rattle.std.specs.declared.option.Option.the-variants.{None, Some}
 use Rattle.definitions.specs.Lists.{at, keep, or-else}
 use Rattle.definitions.specs.Alg.{Alg, Lawful}
-use Rattle.definitions.specs.Systems.{Kind, parameter, variable, value, operation, not, and, or, equal, Term, Terms, node, none, more, Occurrence, Clause, Equation, System}
+use Rattle.definitions.specs.Systems.{Kind, value, operation, not, and, or, equal, Term, Terms, node, none, more, Occurrence, Clause, Equation, System}
 use Rattle.definitions.specs.ReadSystem.{Scope, Header, scope}
 use Rattle.definitions.specs.Values.{known, isFalse}
-use Rattle.definitions.specs.Terms.{truthTerm, onOccurrence, onClause}
+use Rattle.definitions.specs.Terms.{onOccurrence, onClause}
 use Rattle.definitions.specs.Passes.{sortOf, foldedAs, folded, foldeds, foldedEquation, passF}
-use Rattle.definitions.specs.Fits.{Fits, fit-parameter, fit-variable, fit-value, fit-operation, fit-not, fit-and, fit-or, fit-equal, FitsArgs, fit-none, fit-more, TermsFit, ValuesFit, Every, headerOf, SortFits, HeaderFits, OccurrenceFits, ClauseFits, BodyFits, SystemFits}
-use Rattle.theorems.proofs.Monotone.{every-map}
-use Rattle.theorems.proofs.RangesC.{some-same, none-some, InSort, known-low}
-use Rattle.theorems.proofs.Cut.{every-mapped}
-use Rattle.theorems.proofs.ShapesC.{at-map, at-mapped}
-use Rattle.theorems.proofs.Refit.{every-unmapped, value-fits}
+use Rattle.definitions.specs.Fits.{Fits, fit-parameter, fit-variable, fit-value, fit-operation, fit-not, fit-and, fit-or, fit-equal, FitsArgs, fit-none, fit-more, TermsFit, ValuesFit, Every, headerOf, HeaderFits, OccurrenceFits, ClauseFits, BodyFits, SystemFits}
+use Rattle.theorems.proofs.Listing.{every-map, none-some, every-mapped, at-map-some, at-mapped, every-unmapped}
+use Rattle.theorems.proofs.Ranges.{InSort, known-low}
+use Rattle.theorems.proofs.Refit.{value-fits}
 use Rattle.theorems.proofs.KeepsF.{shut, opened}
 
 module _ (a : Alg) (law : Lawful a) (c : Scope) where
@@ -149,7 +147,7 @@ module _ (a : Alg) (law : Lawful a) where
       left : (j : ℕ) (h : Header) → at (map headerOf (s .equations)) j ≡ Some h →
           (h′ : Header) × (at (map headerOf (map (foldedEquation a) (s .equations))) j ≡ Some h′) × (h .sorts ≡ h′ .sorts)
       left j h p =
-          let (q, eq, eh) = at-map headerOf (s .equations) j h p in (
+          let (q, eq, eh) = at-map-some headerOf (s .equations) j h p in (
             headerOf (foldedEquation a q),
             at-mapped headerOf (map (foldedEquation a) (s .equations)) j (foldedEquation a q) (at-mapped (foldedEquation a) (s .equations) j q eq),
             sym (ap (λ (z : Header). z .sorts) eh) ∙ by-form q (λ z. q .sorts ≡ z .sorts) refl refl,

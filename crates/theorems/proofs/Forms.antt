@@ -1,22 +1,22 @@
 -- What Boolean bodies say: what the instance's body says, monotone, and by their variables alone.
 use Rattle.fixpoint.proofs.Truths.{implied}
-use mathlib.Core.Path.{_≡_, refl, sym, _∙_, ap, ap₂, subst, fun-ext}
-use mathlib.Core.Bool.{Bool, true, false, true≢false, false≢true}
+use mathlib.Core.Path.{_≡_, refl, _∙_, ap, ap₂, fun-ext}
+use mathlib.Core.Bool.{Bool, true, false, false≢true}
 use mathlib.Core.List.{List, [], _∷_, _++_, map}
-use Prim.Native.Nat.{ℕ, zero, suc, _+_, _<_, _≤_}
-use native.Mathlib.Omega.{arith}
+use Prim.Native.Nat.{ℕ, _+_}
 use Rattle.std.specs.declared.option.Option.{Option}
 use Rattle.std.specs.declared.option.Option.the-variants.{None, Some}
-use Rattle.definitions.specs.Lists.{at, each, some, keep, from, upTo}
+use Rattle.definitions.specs.Lists.{at, each, some, keep, upTo}
 use Rattle.definitions.specs.Alg.{Alg}
-use Rattle.definitions.specs.Systems.{Quantifier, exists, forall, Quantified, Occurrence, Clause, Equation, System}
+use Rattle.definitions.specs.Systems.{Quantifier, exists, forall, Quantified, Clause, Equation, System}
 use Rattle.definitions.specs.Values.{holds}
-use Rattle.definitions.specs.Order.{Below, Monotone}
+use Rattle.definitions.specs.Order.{Below}
 use Rattle.definitions.specs.Order as order
 use Rattle.definitions.specs.Truth.{Instance, sizeOf, ranging, under, meant, clauseHolds, insideHolds, equationHolds, body}
 use Rattle.definitions.specs.Boolean.{Form, known, all, any, var, Forms, nil, cons, forms, said, allSaid, anySaid, vars, varsAll, renamed, renamedAll, over, spread, allOf, clauseForm, insideForm, equationForm, form}
 use Rattle.definitions.specs.Fits.{Every}
 use Rattle.fixpoint.proofs.Rounds.{pick}
+use Rattle.theorems.proofs.Listing.{every-left, every-right}
 
 all-said : {A I : Type 0} (g : A → Form I) (f : I → Bool) (l : List A) → allSaid (forms (map g l)) f ≡ each (λ v. said (g v) f) l
 all-said g f [] = refl
@@ -115,14 +115,6 @@ mutual
   any-renamed : {I J : Type 0} (ps : Forms I) (r : I → J) (f : J → Bool) → anySaid (renamedAll ps r) f ≡ anySaid ps (λ i. f (r i))
   any-renamed nil r f = refl
   any-renamed (cons p ps) r f = ap₂ (λ x y. elim x [ true ↦ true | false ↦ y ]) (said-renamed p r f) (any-renamed ps r f)
-
-pub every-left : {A : Type 0} (P : A → Type 0) (l m : List A) → Every P (l ++ m) → Every P l
-every-left P [] m h = tt
-every-left P (x ∷ l) m h = (h .0, every-left P l m (h .1))
-
-pub every-right : {A : Type 0} (P : A → Type 0) (l m : List A) → Every P (l ++ m) → Every P m
-every-right P [] m h = h
-every-right P (x ∷ l) m h = every-right P l m (h .1)
 
 mutual
   pub said-agree : {I : Type 0} (p : Form I) (f g : I → Bool) → Every (λ i. f i ≡ g i) (vars p) → said p f ≡ said p g

@@ -1,25 +1,22 @@
 -- A term that is read fits, and its bits stand where it was read.
 use Rattle.faults.specs.declared.Reason.the-variants.{NoSuchSort, NoSuchName, ValueTooLarge}
-use mathlib.Core.Path.{_≡_, refl, sym, _∙_, ap, ap₂, subst, subst₂}
-use mathlib.Core.Bool.{Bool, true, false}
+use mathlib.Core.Path.{_≡_, refl, sym, _∙_, ap, subst, subst₂}
 use mathlib.Core.List.{List, [], _∷_, _++_, map, append-nil}
-use Prim.Native.Nat.{ℕ, zero, suc, _+_, _-_, _*_, _^_, _<_, _≤_}
-use native.Mathlib.Nat.{add-suc, add-zero, add-assoc}
+use Prim.Native.Nat.{ℕ, zero, suc, _+_, _-_, _*_, _<_, _≤_}
+use native.Mathlib.Nat.{add-zero}
 use native.Mathlib.Omega.{arith}
-use lib.Dec.{leb, eqb, ltb}
 use lib.ListN.{length, length-append}
-use Rattle.std.proofs.shelf.Tests.{ltb-true}
 use Rattle.std.specs.declared.option.Option.{Option}
 use Rattle.std.specs.declared.option.Option.the-variants.{None, Some}
 use Rattle.definitions.specs.Lists.{at, flat, upTo, from}
-use Rattle.definitions.specs.Bits.{bitAt, field, bits, Stands}
+use Rattle.definitions.specs.Bits.{bits, Stands}
 use Rattle.definitions.specs.Alg.{Alg}
-use Rattle.definitions.specs.Systems.{Kind, parameter, variable, value, operation, not, and, or, equal, Term, Terms, node, none, more, terms, term, folds}
-use Rattle.definitions.specs.Reading.{Step, next, stop, Reader, take, follow, one-by-one, repeated, below, given, give}
+use Rattle.definitions.specs.Systems.{Kind, parameter, variable, value, operation, not, and, or, equal, Term, node, none, more, terms, folds}
+use Rattle.definitions.specs.Reading.{Step, next, stop, Reader, take, follow, one-by-one, repeated, below, given}
 use Rattle.definitions.specs.ReadSystem.{Scope, Sorted, of, suits, readTerm, readParameter, readVariable, readValue, readOperation, readTruths, readEqual, readKind}
 use Rattle.definitions.specs.Written.{kindBits, termBits}
 use Rattle.definitions.specs.Fits.{Fits, FitsArgs, fit-parameter, fit-variable, fit-value, fit-operation, fit-not, fit-and, fit-or, fit-equal, fit-none, fit-more, Needs}
-use Rattle.theorems.proofs.Fields.{stands-left, stands-right, stands-join, Took, took, follow-inv, given-inv, suits-inv, below-inv}
+use Rattle.theorems.proofs.Fields.{stands-join, took, follow-inv, given-inv, suits-inv, below-inv}
 
 stands-end′ : (f : List ℕ) (p : ℕ) (bs : List ℕ) → Stands f p bs → p + length bs ≤ 8 * length f
 stands-end′ f p [] h = omega arith

@@ -1,28 +1,29 @@
 -- Readers that read something from its bits, joined.
 use Rattle.faults.specs.declared.Reason.{Reason}
 use Rattle.faults.specs.declared.Reason.the-variants.{NoEquations, NoSuchSort, NoSuchName, ValueTooLarge}
-use mathlib.Core.Path.{_≡_, refl, sym, _∙_, ap, ap₂, subst, subst₂}
+use mathlib.Core.Path.{_≡_, refl, sym, _∙_, ap, subst, subst₂}
 use mathlib.Core.Bool.{Bool, true, false, false≢true}
 use mathlib.Core.List.{List, [], _∷_, _++_, map}
-use Prim.Native.Nat.{ℕ, zero, suc, _+_, _-_, _*_, _^_, _<_, _≤_}
-use native.Mathlib.Nat.{add-suc, add-zero, add-assoc}
+use Prim.Native.Nat.{ℕ, zero, suc, _+_, _-_, _^_, _<_}
+use native.Mathlib.Nat.{add-zero, add-assoc}
 use native.Mathlib.Omega.{arith}
-use lib.Dec.{leb, eqb, ltb}
+use lib.Dec.{ltb}
 use lib.ListN.{length, length-append, length-map}
 use Rattle.std.specs.declared.option.Option.{Option}
-use Rattle.std.specs.declared.option.Option.the-variants.{None, Some}
+use Rattle.std.specs.declared.option.Option.the-variants.{Some}
 use Rattle.std.proofs.shelf.Tests.{lt-ltb}
 use Rattle.definitions.specs.Lists.{at, bind, flat}
 use Rattle.definitions.specs.Bits.{bits, Stands}
 use Rattle.definitions.specs.Alg.{Alg}
 use Rattle.definitions.specs.Solution.{Sign, least, greatest}
 use Rattle.definitions.specs.Systems.{Quantifier, exists, forall, Quantified, Term, Occurrence, Clause, Equation, System}
-use Rattle.definitions.specs.Reading.{Step, next, stop, Reader, take, takeFor, follow, give, given, here, below, one-by-one, repeated, _>>=_, _>>_, must}
+use Rattle.definitions.specs.Reading.{next, Reader, take, takeFor, follow, give, here, below, one-by-one, repeated, _>>=_, _>>_, must}
 use Rattle.definitions.specs.ReadSystem.{Scope, Sorted, Header, scope, signOf, quantifierOf, readSort, readQuantified, readHeader, readTarget, readOf, readOccurrence, readClause, readBody, readValueOf, readSystem, readTerm}
 use Rattle.definitions.specs.Written.{termBits, signBits, quantifierBits, headerBits, occurrenceBits, clauseBits, bodyBits, systemBits}
-use Rattle.definitions.specs.Fits.{Fits, Needs, Every, SortFits, HeaderFits, headerOf, TermsFit, ValuesFit, OccurrenceFits, ClauseFits, BodyFits, SystemFits}
+use Rattle.definitions.specs.Fits.{Fits, Every, SortFits, HeaderFits, headerOf, TermsFit, ValuesFit, OccurrenceFits, ClauseFits, BodyFits, SystemFits}
 use Rattle.theorems.proofs.Fields.{stands-left, stands-right, takes, below-some}
 use Rattle.theorems.proofs.Back.{reads}
+use Rattle.theorems.proofs.Listing.{every-map}
 
 -- r reads x from the bits bs, wherever they stand in f
 pub record Good (f : List ℕ) {A : Type 0} (r : Reader A) (x : A) (bs : List ℕ) : Type 0 where
@@ -90,10 +91,6 @@ module _ (f : List ℕ) where
         subst₂ (λ bs k. Good f (readQuantified a) (record { quantifier = k; sort = q .sort }) (bs ++ bits 4 (q .sort))) (sym e) e′
         (good-then _ _ (good-take 1 n l) (good-last (λ s. record { quantifier = quantifierOf n; sort = s }) (good-sort (q .sort) h)))
 
-    every-map : {A : Type 0} {P Q : A → Type 0} → ((x : A) → P x → Q x) → (xs : List A) → Every P xs → Every Q xs
-    every-map g [] h = tt
-    every-map g (x ∷ xs) h = (g x (h .0), every-map g xs (h .1))
-
     abbrev pub headBits : Header → List ℕ
     headBits e =
         signBits (e .sign) ++ (bits 4 (length (e .sorts)) ++ (flat (map (bits 4) (e .sorts)) ++
@@ -108,11 +105,11 @@ module _ (f : List ℕ) where
         (bs ++ (bits 4 (length (h .sorts)) ++ (ss ++ (bits 2 (length (h .quantified)) ++ qs))))) (sym e) e′
         (good-then _ _ (good-take 1 n l)
         (good-then _ _ (good-take 4 (length (h .sorts)) (k .few))
-        (good-then _ _ (good-repeated (readSort a) (bits 4) (h .sorts) (every-map good-sort (h .sorts) (k .sorts)))
+        (good-then _ _ (good-repeated (readSort a) (bits 4) (h .sorts) (every-map (h .sorts) good-sort (k .sorts)))
         (good-then _ _ (good-take 2 (length (h .quantified)) (k .few-quantified))
         (good-last (λ q. record { sign = signOf n; sorts = h .sorts; quantified = q })
         (good-repeated (readQuantified a) (λ (q : Quantified). quantifierBits (q .quantifier) ++ bits 4 (q .sort)) (h .quantified)
-        (every-map good-quantified (h .quantified) (k .quantified))))))))
+        (every-map (h .quantified) good-quantified (k .quantified))))))))
 
     good-target : (hs : List Header) (i : ℕ) (h : Header) → i < 32 → at hs i ≡ Some h → Good f (readTarget hs) (i, h) (bits 5 i)
     good-target hs i h l e = good-for 5 i (λ j. bind (at hs j) (λ k. Some (j, k))) NoSuchName (i, h) l (rw e refl)
@@ -150,7 +147,7 @@ module _ (f : List ℕ) where
           (good-then _ _ (good-take 3 n (omega (arith, h .few, h .some)))
           (good-last (λ z. record { guard = k .guard; occurrences = z })
           (subst (λ m. Good f (repeated (readOccurrence a hs c) m) (k .occurrences) (flat (map occurrenceBits (k .occurrences)))) e
-          (good-repeated (readOccurrence a hs c) occurrenceBits (k .occurrences) (every-map (good-occurrence c) (k .occurrences) (h .fit))))))
+          (good-repeated (readOccurrence a hs c) occurrenceBits (k .occurrences) (every-map (k .occurrences) (good-occurrence c) (h .fit))))))
 
       good-body : (e : Equation) → BodyFits a hs e → Good f (readBody a hs (headerOf e)) e (bodyBits e)
       good-body e h =
@@ -158,7 +155,7 @@ module _ (f : List ℕ) where
           good-then _ _ (good-term c 0 (e .h) (h .h))
           (good-then _ _ (good-take 4 (length (e .clauses)) (h .few))
           (good-last (λ z. record { sign = e .sign; sorts = e .sorts; quantified = e .quantified; h = e .h; clauses = z })
-          (good-repeated (readClause a hs c) clauseBits (e .clauses) (every-map (good-clause c) (e .clauses) (h .fit)))))
+          (good-repeated (readClause a hs c) clauseBits (e .clauses) (every-map (e .clauses) (good-clause c) (h .fit)))))
 
       body-rows : (es : List Equation) → Every (BodyFits a hs) es → Rows (readBody a hs) bodyBits (map headerOf es) es
       body-rows [] h = no-row
@@ -171,7 +168,7 @@ module _ (f : List ℕ) where
     good-heads : (es : List Equation) → Every (HeaderFits a) (map headerOf es) → Good f (repeated (readHeader a) (length es)) (map headerOf es) (flat (map headerBits es))
     good-heads es h =
         subst₂ (λ n bs. Good f (repeated (readHeader a) n) (map headerOf es) bs) (length-map es headerOf) (heads-same es)
-        (good-repeated (readHeader a) headBits (map headerOf es) (every-map good-header (map headerOf es) h))
+        (good-repeated (readHeader a) headBits (map headerOf es) (every-map (map headerOf es) good-header h))
 
     pub good-system : (s : System) → SystemFits a s → Good f (readSystem a) s (systemBits s)
     good-system s h =

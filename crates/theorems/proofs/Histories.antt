@@ -2,42 +2,37 @@
 use mathlib.Core.Path.{_≡_, refl, sym, _∙_, ap, ap₂, subst}
 use mathlib.Core.Bool.{Bool, true, false, _||_}
 use mathlib.Core.List.{List, [], _∷_, _++_}
-use mathlib.Core.Logic.{_⊎_, inl, inr}
-use Prim.Native.Nat.{ℕ, zero, suc, _+_, _/_, _<_, _≤_}
+use mathlib.Core.Logic.{inl, inr}
+use Prim.Native.Nat.{ℕ, _+_, _/_, _≤_}
 use native.Mathlib.Omega.{arith}
 use lib.Dec.{eqb, leb, ltb}
-use lib.ListN.{length, getD, take, drop, length-map}
+use lib.ListN.{length, take, drop, length-map}
 use borrow.Author.Tests.{leb-true, ltb-false, le-leb}
-use Rattle.std.specs.declared.option.Option.{Option}
-use Rattle.std.specs.declared.option.Option.the-variants.{None, Some}
-use Rattle.std.specs.declared.result.Result.{Result}
+use Rattle.std.specs.declared.option.Option.the-variants.{Some}
 use Rattle.std.specs.declared.result.Result.the-variants.{Ok, Err}
-use Rattle.definitions.specs.Lists.{at, strike, from, upTo}
+use Rattle.definitions.specs.Lists.{at, upTo}
 use Rattle.definitions.specs.Alg.{Alg, Lawful}
 use Rattle.definitions.specs.Algebras.{truth}
-use Rattle.definitions.specs.Systems.{System, Equation}
+use Rattle.definitions.specs.Systems.{System}
 use Rattle.definitions.specs.Reading.{Reading, got, bad, Reader, file, ended as ending-of, complete}
-use Rattle.definitions.specs.ReadSystem.{reading, readSystem, Header}
+use Rattle.definitions.specs.ReadSystem.{reading, readSystem}
 use Rattle.definitions.specs.Written.{written, systemBits}
-use Rattle.definitions.specs.Fits.{Every, SystemFits, ValuesFit, headerOf}
+use Rattle.definitions.specs.Fits.{Every, SystemFits}
 use Rattle.definitions.specs.Truth.{verdict}
-use Rattle.definitions.specs.Terms.{cut, cutEquation}
-use Rattle.definitions.specs.Constants.{passC}
-use Rattle.definitions.specs.Passes.{needed, passF, passR, passU}
 use Rattle.definitions.specs.Settle.{Pass, Ran, wrote, refused, fitted, ranOn, run, passes, Round, ended, failed, roundBy}
-use Rattle.definitions.specs.Boolean.{Expanded, made, refused as declined, expandRead, expandSystem, Variable, booleanReading, solves, expandOn}
+use Rattle.definitions.specs.Boolean.{made, expandRead, expandSystem, Variable, booleanReading, solves, expandOn}
 use Rattle.faults.specs.declared.Reason.the-variants.{BenchEmpty, BadLength, NoSuchName, ResultTooLong, TooFewTruths}
 use Rattle.faults.specs.declared.PassFault.{PassFault}
 use Rattle.faults.specs.declared.PassFault.the-variants.{Reading as Unread, Declined}
-use Rattle.theorems.specs.ExpandLaws.{Ships}
 use Rattle.definitions.specs.Rules.{Rules}
-use Rattle.definitions.specs.Calls.{Bytes, Taken, Untaken, Loads, Stayed, Answers, runOn, lettered, runBy, Settles, equal, again, Halted, Settling, Makes, Solved, found, unsolved, solveVariables, solve, Solving}
+use Rattle.definitions.specs.Calls.{Bytes, Taken, runOn, lettered, runBy, Settles, equal, again, Makes, Solved, found, unsolved, solveVariables, solve, Solving}
 use Rattle.definitions.specs.Past.{Event, loads, runs, letters, settles, expands, Step, Past, fresh, call, NoLoad, Served, Wrote}
-use Rattle.definitions.specs.Histories.{FirstByte, Kept, Sound, Histories-sound}
+use Rattle.definitions.specs.Histories.{FirstByte, Histories-sound}
 use Rattle.theorems.specs.PassLaws.{Passes-keep-rules}
 use Rattle.theorems.proofs.Whole.{whole-back, system-bits}
 use Rattle.theorems.proofs.Repack.{whole-forth, small-bytes}
 use Rattle.theorems.proofs.Expanding.{expand-ships}
+use Rattle.theorems.proofs.Listing.{from-long}
 
 clash : (x : PassFault) (g : List ℕ) → refused x ≡ wrote g → ⊥
 clash x g e = let z : _≡_ {A = ℕ} 0 1 = cc in omega arith
@@ -160,12 +155,8 @@ at-front : (xs ys : List ℕ) (b : ℕ) → at xs 0 ≡ Some b → at (xs ++ ys)
 at-front [] ys b e = let z : _≡_ {A = ℕ} 0 1 = cc in absurd (omega arith)
 at-front (x ∷ xs) ys b e = e
 
-upTo-long : (k n : ℕ) → length (from k n) ≡ n
-upTo-long k zero = refl
-upTo-long k (suc n) = ap suc (upTo-long (suc k) n)
-
 pub solves-long : (vs : List Variable) → length (solves vs) ≡ length vs
-solves-long vs = length-map (upTo (length vs)) _ ∙ upTo-long 0 (length vs)
+solves-long vs = length-map (upTo (length vs)) _ ∙ from-long 0 (length vs)
 
 -- a Boolean file that is read, solved
 pub first-byte : (g : List ℕ) (b : ℕ) (vs : List Variable) → booleanReading g ≡ got vs → at (solves vs) 0 ≡ Some b → FirstByte g b

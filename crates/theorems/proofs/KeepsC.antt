@@ -1,16 +1,14 @@
--- The pass C keeps the verdict.
-use Prim.Native.Nat.{ℕ, zero, suc, _+_, _<_}
-use mathlib.Core.Path.{_≡_, refl, sym, _∙_, ap, ap₂, subst, subst₂}
-use mathlib.Core.Bool.{Bool, true, false, _&&_, true≢false, false≢true, not as flip}
-use mathlib.Core.List.{List, [], _∷_, _++_, map}
+-- What the pass C keeps: the truth of every instance of a reached equation that agrees with what is known, so the verdict.
+use Prim.Native.Nat.{ℕ, zero, suc, _+_}
+use mathlib.Core.Path.{_≡_, refl, sym, _∙_, ap, subst, subst₂}
+use mathlib.Core.Bool.{Bool, true, false, not as flip}
+use mathlib.Core.List.{List, [], _∷_, map}
 use native.Mathlib.Omega.{arith}
 use native.Mathlib.Nat.{zero-add}
-use lib.Dec.{eqb, ltb}
-use Rattle.std.proofs.shelf.Tests.{and-parts}
 use lib.ListN.{length, getD, length-map}
 use Rattle.std.specs.declared.option.Option.{Option}
 use Rattle.std.specs.declared.option.Option.the-variants.{None, Some}
-use Rattle.definitions.specs.Lists.{at, flat, is-some, mapFrom, strike, place, each, some}
+use Rattle.definitions.specs.Lists.{at, flat, is-some, mapFrom, strike, place}
 use Rattle.definitions.specs.Alg.{Alg, Lawful, within}
 use Rattle.definitions.specs.Systems.{Kind, parameter, variable, value, operation, not, and, or, equal, Term, Quantified, Occurrence, Clause, Equation, System}
 use Rattle.definitions.specs.ReadSystem.{Scope, Header, scope}
@@ -20,14 +18,15 @@ use Rattle.definitions.specs.Fits.{Every, Fits, TermsFit, headerOf, OccurrenceF
 use Rattle.definitions.specs.Truth.{Instance, sizeOf, sizesOf, meant, clauseHolds, insideHolds, equationHolds, body, blockOf, truths, verdict}
 use Rattle.definitions.specs.Constants.{Known, Knowledge, clauseBrings, equationBrings, allBring, brought, leastKnowledge, kindFor, inserted, unknownOf, passC}
 use Rattle.fixpoint.specs.Laws.{Agree, Matched}
-use Rattle.theorems.proofs.Knows.{Under, same, unknown, Unders, getD-under, trans-unders, Met, All, to-all, all-left, all-right}
+use Rattle.theorems.proofs.Knows.{Unders, getD-under, trans-unders, Met, All, to-all, all-left, all-right}
 use Rattle.theorems.proofs.Stable.{stands}
-use Rattle.theorems.proofs.Monotone.{every-map, each-map, some-map, equals, each-is, some-is, under-is, clause-is, inside-is}
-use Rattle.theorems.proofs.RangesC.{some-same, none-some, arguments-low, arguments-there, values-low}
+use Rattle.theorems.proofs.Listing.{every-map, each-map, some-map, some-same, none-some, getD-at, at-mapFrom, mapFrom-twice, map-twice, every-mapped, every-at, every-two, at-map-some}
+use Rattle.theorems.proofs.Monotone.{equals, each-is, some-is, under-is, clause-is, inside-is}
+use Rattle.theorems.proofs.Ranges.{arguments-low, arguments-there, values-low}
 use Rattle.theorems.proofs.Agrees.{arguments-under, holds-not-false}
-use Rattle.theorems.proofs.Cut.{OnKinds, OnParameters, on-map, on-mapped, fits-scoped, terms-fit, strike-map, strike-within, renumber-value, cut-values, insert-value, getD-at, at-mapFrom, mapFrom-twice, map-twice, every-mapped, same-values, within-long, unders-long}
-use Rattle.theorems.proofs.BlocksC.{blocks-match, both-inside, truths-agree}
-use Rattle.theorems.proofs.ShapesC.{every-at, every-two, at-map, at-mapped, fits-shaped}
+use Rattle.theorems.proofs.Cut.{OnParameters, on-map, on-mapped, fits-scoped, terms-fit, strike-map, strike-within, renumber-value, cut-values, insert-value, same-values, within-long, unders-long}
+use Rattle.theorems.proofs.Blocks.{blocks-match, both-inside, truths-agree}
+use Rattle.theorems.proofs.FitShapes.{fits-shaped}
 
 -- what the knowledge brings is known
 pub bring-at : (a : Alg) (L : Knowledge) (es : List Equation) (K : Knowledge) (n : ℕ) (e : Equation) (k : Option Known) →
@@ -117,7 +116,7 @@ module _ (a : Alg) (s : System) where
         Unders (map Some ps) ks → (o : Occurrence) → OccurrenceFits a (map headerOf (s .equations)) c o → Met what (o .target, map (known a ks) (o .arguments)) →
         Kept (meant a ps vs o) (o .target, strike (getD masks (o .target) []) (valuesOf a ps vs (o .arguments)))
     target-kept c ps vs ks wp wv u o f m =
-        let (q, eq, eh) = at-map headerOf (s .equations) (o .target) (f .header) (f .there) in
+        let (q, eq, eh) = at-map-some headerOf (s .equations) (o .target) (f .header) (f .there) in
         record {
           equation = q;
           there = eq;
@@ -134,7 +133,7 @@ module _ (a : Alg) (s : System) where
 
     start-kept : Kept (s .start, s .values) (passC a s .start, passC a s .values)
     start-kept =
-        let (q, eq, eh) = at-map headerOf (s .equations) (s .start) (fit .header) (fit .there) in
+        let (q, eq, eh) = at-map-some headerOf (s .equations) (s .start) (fit .header) (fit .there) in
         record {
           equation = q;
           there = eq;

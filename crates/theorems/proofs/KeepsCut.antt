@@ -1,27 +1,26 @@
--- Removing parameters that nothing kept depends on keeps the verdict.
-use Prim.Native.Nat.{ℕ, zero, suc, _+_, _<_}
+-- Removing parameters that nothing kept depends on keeps the truth of every instance, so the verdict.
+use Prim.Native.Nat.{ℕ, _+_}
 use mathlib.Core.Path.{_≡_, refl, sym, _∙_, ap, ap₂, subst, subst₂}
-use mathlib.Core.Bool.{Bool, true, false, _&&_}
-use mathlib.Core.List.{List, [], _∷_, _++_, map}
+use mathlib.Core.Bool.{Bool, true, false}
+use mathlib.Core.List.{List, [], _∷_, map}
 use native.Mathlib.Nat.{zero-add}
-use lib.ListN.{length, getD}
-use Rattle.std.specs.declared.option.Option.{Option}
-use Rattle.std.specs.declared.option.Option.the-variants.{None, Some}
-use Rattle.definitions.specs.Lists.{at, mapFrom, strike, place, each, some, or-else}
+use lib.ListN.{getD}
+use Rattle.std.specs.declared.option.Option.the-variants.{Some}
+use Rattle.definitions.specs.Lists.{at, mapFrom, strike, place, or-else}
 use Rattle.definitions.specs.Alg.{Alg, Lawful, within}
-use Rattle.definitions.specs.Systems.{Kind, parameter, Term, Quantified, Occurrence, Clause, Equation, System}
-use Rattle.definitions.specs.ReadSystem.{Scope, Header, scope}
-use Rattle.definitions.specs.Values.{isTrue, holds, valueOf, valuesOf}
+use Rattle.definitions.specs.Systems.{parameter, Term, Quantified, Occurrence, Clause, Equation, System}
+use Rattle.definitions.specs.ReadSystem.{Header, scope}
+use Rattle.definitions.specs.Values.{isTrue, valueOf, valuesOf}
 use Rattle.definitions.specs.Terms.{replaced, onOccurrence, onClause, cutEquation, cut}
 use Rattle.definitions.specs.Fits.{Every, headerOf, OccurrenceFits, ClauseFits, BodyFits, SystemFits}
 use Rattle.definitions.specs.Truth.{Instance, sizeOf, sizesOf, meant, clauseHolds, insideHolds, equationHolds, body, blockOf, truths, verdict}
 use Rattle.fixpoint.specs.Laws.{Agree, Matched}
 use Rattle.theorems.specs.PassLaws.{InRange, left}
-use Rattle.theorems.proofs.Monotone.{every-map, each-map, some-map, equals, each-is, some-is, under-is, clause-is, inside-is}
-use Rattle.theorems.proofs.RangesC.{some-same, none-some, arguments-low, values-low}
-use Rattle.theorems.proofs.Cut.{OnKinds, OnParameters, strike-map, strike-within, renumber-value, at-mapFrom, map-twice}
-use Rattle.theorems.proofs.BlocksC.{blocks-match, both-inside, truths-agree}
-use Rattle.theorems.proofs.ShapesC.{every-at, every-two, at-map}
+use Rattle.theorems.proofs.Listing.{every-map, each-map, some-map, some-same, at-mapFrom, map-twice, every-at, every-two, at-map-some}
+use Rattle.theorems.proofs.Monotone.{equals, each-is, some-is, under-is, clause-is, inside-is}
+use Rattle.theorems.proofs.Ranges.{arguments-low, values-low}
+use Rattle.theorems.proofs.Cut.{OnKinds, OnParameters, strike-map, strike-within, renumber-value}
+use Rattle.theorems.proofs.Blocks.{blocks-match, both-inside, truths-agree}
 
 -- a term of equation i that names kept parameters alone
 abbrev pub Keeps : List (List Bool) → ℕ → Term → Type 0
@@ -71,7 +70,7 @@ module _ (a : Alg) (s : System) (masks : List (List Bool)) where
       occurrence-kept : (o : Occurrence) → OccurrenceFits a (map headerOf (s .equations)) (scope (headerOf e)) o →
           Every (Keeps masks i) (strike (getD masks (o .target) []) (o .arguments)) → Struck (meant a ps vs o) (meant a (strike mask ps) vs (cut-occurrence o))
       occurrence-kept o b k =
-          let (q, eq, eh) = at-map headerOf (s .equations) (o .target) (b .header) (b .there) in
+          let (q, eq, eh) = at-map-some headerOf (s .equations) (o .target) (b .header) (b .there) in
           let m = getD masks (o .target) [] in
           record {
             equation = q;
@@ -135,7 +134,7 @@ module _ (a : Alg) (s : System) (masks : List (List Bool)) where
 
     pub keeps : verdict a (cut masks s) ≡ verdict a s
     keeps =
-        let (q, eq, eh) = at-map headerOf (s .equations) (s .start) (fit .header) (fit .there) in
+        let (q, eq, eh) = at-map-some headerOf (s .equations) (s .start) (fit .header) (fit .there) in
         truth-kept (s .start, s .values)
         (record {
           equation = q;

@@ -1,34 +1,31 @@
--- The pass F keeps the verdict.
+-- The pass F keeps what bodies say and the truth of every instance, so the verdict.
 use Prim.Native.Nat.{ℕ, zero, suc, _+_, _<_, _≤_}
-use mathlib.Core.Path.{_≡_, refl, sym, _∙_, ap, ap₂, subst, subst₂, fun-ext}
+use mathlib.Core.Path.{_≡_, refl, sym, _∙_, ap, ap₂, fun-ext}
 use mathlib.Core.Bool.{Bool, true, false, _&&_, true≢false, false≢true, not as flip}
 use mathlib.Core.List.{List, [], _∷_, _++_, map}
 use native.Mathlib.Omega.{arith}
-use lib.Dec.{eqb, ltb}
-use lib.ListN.{length, getD, length-map}
+use lib.Dec.{eqb}
 use mathlib.Core.Logic.{_⊎_, inl, inr}
 use Rattle.std.proofs.shelf.Tests.{cases-lt, eqb-true}
 use Rattle.std.specs.declared.option.Option.{Option}
 use Rattle.std.specs.declared.option.Option.the-variants.{None, Some}
-use Rattle.definitions.specs.Lists.{at, mapFrom, each, some, keep, from, upTo, or-else}
+use Rattle.definitions.specs.Lists.{at, mapFrom, each, some, keep, from, upTo}
 use Rattle.definitions.specs.Alg.{Alg, Lawful, within}
-use Rattle.definitions.specs.Systems.{Kind, parameter, variable, value, operation, not, and, or, equal, Term, Terms, node, none, more, fold, folds, Quantifier, exists, forall, Quantified, Occurrence, Clause, Equation, System}
-use Rattle.definitions.specs.Values.{known, kindKnown, isFalse, isTrue, holds, valueOf, valuesOf}
+use Rattle.definitions.specs.Systems.{Kind, Term, Terms, node, none, more, folds, Quantifier, exists, forall, Quantified, Clause, Equation, System}
+use Rattle.definitions.specs.Values.{known, kindKnown, isFalse, isTrue, holds, valueOf}
 use Rattle.definitions.specs.Terms.{truthTerm, onOccurrence, onClause}
 use Rattle.definitions.specs.Fits.{Every, headerOf, SortFits, HeaderFits, SystemFits}
-use Rattle.definitions.specs.Truth.{Instance, sizeOf, sizesOf, ranging, under, meant, clauseHolds, insideHolds, equationHolds, body, blockOf, truths, verdict}
-use Rattle.definitions.specs.Passes.{sortOf, foldedAs, folded, foldeds, foldedEquation, passF}
+use Rattle.definitions.specs.Truth.{Instance, sizeOf, ranging, under, meant, clauseHolds, insideHolds, equationHolds, body, blockOf, verdict}
+use Rattle.definitions.specs.Passes.{foldedAs, folded, foldeds, foldedEquation, passF}
 use Rattle.fixpoint.specs.Laws.{Agree, Matched}
-use Rattle.theorems.specs.PassLaws.{F-keeps-truths}
+use Rattle.theorems.specs.PassLaws.{F-keeps-bodies, F-keeps-truths}
 use Rattle.theorems.proofs.Knows.{Under, same, unknown}
 use Rattle.fixpoint.proofs.Rounds.{pick}
-use Rattle.theorems.proofs.Monotone.{every-map, every-of, each-map, some-map, equals, each-is, some-is, under-is, clause-is, inside-is}
-use Rattle.theorems.proofs.RangesC.{some-same, none-some}
-use Rattle.theorems.proofs.Agrees.{plain-under, under-some, holds-not-false}
-use Rattle.theorems.proofs.Cut.{same-values, map-twice}
-use Rattle.theorems.proofs.BlocksC.{truths-agree}
-use Rattle.theorems.proofs.ShapesC.{every-at, at-map, at-mapped}
-use Rattle.theorems.proofs.Refit.{every-unmapped}
+use Rattle.theorems.proofs.Listing.{every-map, every-of, each-map, some-map, none-some, every-at, every-unmapped}
+use Rattle.theorems.proofs.Monotone.{equals, each-is, some-is, under-is, clause-is, inside-is}
+use Rattle.theorems.proofs.Agrees.{plain-under, under-some}
+use Rattle.theorems.proofs.Cut.{same-values}
+use Rattle.theorems.proofs.Blocks.{truths-agree}
 
 module _ (a : Alg) (ps vs : List ℕ) where
   as-known : (o : Option ℕ) (k : Kind) (ts : Terms) → Under (valueOf a ps vs (node k ts)) o →
@@ -167,15 +164,17 @@ blocks-same a k (e ∷ es) =
     sym (ap (λ z. eqb (y .0) k && within (map (sizeOf a) z) (y .1)) (folded-same a e (λ (z : Equation). z .sorts) refl refl)))
     (blocks-same a (suc k) es)
 
+pub bodies-kept : F-keeps-bodies
+bodies-kept a law s fit f x =
+    sym (at-all a (s .equations) (x .0) f (x .1) (λ e p. equation-kept a law f e
+    (every-at (λ e. HeaderFits a (headerOf e)) (s .equations) (x .0) e p (every-unmapped (HeaderFits a) headerOf (s .equations) (fit .headers))) (x .1)))
+
 pub truth-kept : F-keeps-truths
 truth-kept a law s fit x =
     sym (truths-agree a s (passF a s) (λ x y. x ≡ y) (blocks-same a 0 (s .equations)) bodies x x refl)
   where
     bodies : (f g : Instance → Bool) → Agree (λ p q. p ≡ q) (λ (x y : Instance). x ≡ y) f g → Agree (λ p q. p ≡ q) (λ (x y : Instance). x ≡ y) (body a s f) (body a (passF a s) g)
-    bodies f g h x y r =
-        ap (λ z. body a s z x) (fun-ext (λ z. h z z refl)) ∙ ap (body a s g) r ∙
-        at-all a (s .equations) (y .0) g (y .1) (λ e p. equation-kept a law g e
-        (every-at (λ e. HeaderFits a (headerOf e)) (s .equations) (y .0) e p (every-unmapped (HeaderFits a) headerOf (s .equations) (fit .headers))) (y .1))
+    bodies f g h x y r = ap (λ z. body a s z x) (fun-ext (λ z. h z z refl)) ∙ ap (body a s g) r ∙ sym (bodies-kept a law s fit g y)
 
 pub keeps : (a : Alg) → Lawful a → (s : System) → SystemFits a s → verdict a (passF a s) ≡ verdict a s
 keeps a law s fit = truth-kept a law s fit (s .start, s .values)

@@ -1,4 +1,4 @@
--- The pass R keeps the verdict, and what it writes fits.
+-- The pass R keeps the truth of every instance, so the verdict, and what it writes fits.
 use mathlib.Core.Path.{_≡_}
 use Rattle.definitions.specs.Alg.{Alg, Lawful}
 use Rattle.definitions.specs.Systems.{System}

@@ -1,36 +1,28 @@
--- The pass U keeps the verdict, and what it writes fits.
+-- The pass U keeps the truth of every instance of a reached equation, so the verdict, and what it writes fits.
 use Prim.Native.Nat.{ℕ, zero, suc, _+_, _<_, _≤_}
-use mathlib.Core.Path.{_≡_, refl, sym, _∙_, ap, ap₂, subst, subst₂}
+use mathlib.Core.Path.{_≡_, refl, sym, _∙_, ap, subst}
 use mathlib.Core.Bool.{Bool, true, false, _&&_, _||_, true≢false, false≢true}
-use mathlib.Core.List.{List, [], _∷_, _++_, map, List·Memᴰ}
+use mathlib.Core.List.{List, [], _∷_, map}
 use native.Mathlib.Omega.{arith}
 use native.Mathlib.Nat.{zero-add}
 use lib.Dec.{eqb}
 use lib.ListN.{length, getD, length-map}
 use Rattle.std.proofs.shelf.Tests.{or-left, or-right, eq-eqb, eqb-true, ne-eqb}
-use Rattle.std.specs.declared.option.Option.{Option}
-use Rattle.std.specs.declared.option.Option.the-variants.{None, Some}
-use Rattle.definitions.specs.Lists.{at, flat, mapFrom, strike, place, each, some, from, upTo, times}
+use Rattle.std.specs.declared.option.Option.the-variants.{Some}
+use Rattle.definitions.specs.Lists.{at, mapFrom, strike, place, some, upTo}
 use Rattle.definitions.specs.Alg.{Alg, within}
 use Rattle.definitions.specs.Systems.{Occurrence, Clause, Equation, System}
-use Rattle.definitions.specs.ReadSystem.{Scope, Header, scope}
+use Rattle.definitions.specs.ReadSystem.{Header, scope}
 use Rattle.definitions.specs.Fits.{Every, headerOf, HeaderFits, OccurrenceFits, ClauseFits, BodyFits, SystemFits}
 use Rattle.definitions.specs.Truth.{Instance, sizesOf, meant, clauseHolds, insideHolds, equationHolds, body, blockOf, truths, verdict}
 use Rattle.definitions.specs.Passes.{occurrences, calls, chained, reachable, renamed, passU}
 use Rattle.fixpoint.specs.Laws.{Agree, Matched}
-use Rattle.theorems.proofs.Monotone.{every-map, every-of, each-map, some-map, equals, each-is, some-is, under-is, clause-is, inside-is}
-use Rattle.theorems.proofs.RangesC.{some-same, none-some}
-use Rattle.theorems.proofs.Cut.{every-mapped}
-use Rattle.theorems.proofs.BlocksC.{truths-agree}
-use Rattle.theorems.proofs.ShapesC.{every-at, every-two, at-map, at-mapped}
-use Rattle.theorems.proofs.Refit.{strike-at, place-low, strike-short, strike-every, every-unmapped}
+use Rattle.theorems.proofs.Listing.{every-map, each-map, some-map, some-same, none-some, every-mapped, every-at, every-two, at-map-some, at-mapped, strike-short, every-unmapped, from-long, at-lt}
+use Rattle.theorems.proofs.Monotone.{equals, each-is, some-is, under-is, clause-is, inside-is}
+use Rattle.theorems.proofs.Blocks.{truths-agree}
+use Rattle.theorems.proofs.Refit.{strike-at, place-low, strike-every}
 use Rattle.theorems.proofs.Closing.{closes}
-use Rattle.theorems.proofs.Marks.{from-mem, from-long, true-low, pick-left, pick-right, strike-up, row-up, getD-from, some-each, some-flat, or-up}
-
-pub here-low : {A : Type 0} (xs : List A) (n : ℕ) (x : A) → at xs n ≡ Some x → n < length xs
-here-low [] n x e = absurd (none-some x e)
-here-low (y ∷ xs) zero x e = omega arith
-here-low (y ∷ xs) (suc n) x e = omega (arith, here-low xs n x e)
+use Rattle.theorems.proofs.Marks.{from-mem, true-low, pick-left, pick-right, strike-up, row-up, getD-from, some-each, some-flat, or-up}
 
 -- some of what a mask keeps
 pub strike-some : {A : Type 0} (p : A → Bool) (ms : List Bool) (xs : List A) (n : ℕ) (x : A) → getD ms n false ≡ true → at xs n ≡ Some x → p x ≡ true → some p (strike ms xs) ≡ true
@@ -111,7 +103,7 @@ module _ (a : Alg) (s : System) (fit : SystemFits a s) where
   rename-clause c = record { guard = c .guard; occurrences = map rename-occurrence (c .occurrences) }
 
   header-low : (j : ℕ) (h : Header) → at (map headerOf (s .equations)) j ≡ Some h → j < length (s .equations)
-  header-low j h p = let (q, eq, eh) = at-map headerOf (s .equations) j h p in here-low (s .equations) j q eq
+  header-low j h p = let (q, eq, eh) = at-map-some headerOf (s .equations) j h p in at-lt (s .equations) j q eq
 
   bodies : (f g : Instance → Bool) → Agree (λ p q. p ≡ q) Renamed f g → Agree (λ p q. p ≡ q) Renamed (body a s f) (body a (passU a s) g)
   bodies f g h x y r =
@@ -123,9 +115,9 @@ module _ (a : Alg) (s : System) (fit : SystemFits a s) where
       clause-is equals a f g (x .1) (x .1) vs c (rename-clause c) refl (λ _.
       some-is equals (λ o. f (meant a (x .1) vs o)) (λ o. g (meant a (x .1) vs (rename-occurrence o))) (c .occurrences)
       (every-two (c .occurrences) (λ o d m.
-      let (q, eq, eh) = at-map headerOf (s .equations) (o .target) (d .header) (d .there) in
+      let (q, eq, eh) = at-map-some headerOf (s .equations) (o .target) (d .header) (d .there) in
       h (meant a (x .1) vs o) (meant a (x .1) vs (rename-occurrence o))
-      (record { equation = q; there = eq; kept = m (here-low (s .equations) (o .target) q eq); left = refl })) (b .fit) k) ∙
+      (record { equation = q; there = eq; kept = m (at-lt (s .equations) (o .target) q eq); left = refl })) (b .fit) k) ∙
       sym (some-map (λ o. g (meant a (x .1) vs o)) rename-occurrence (c .occurrences))))
       (every-at (BodyFits a (map headerOf (s .equations))) (s .equations) (x .0) e (r .there) (fit .bodies) .fit)
       (call-reached s (x .0) e (r .there) (r .kept))) ∙
@@ -182,7 +174,7 @@ module _ (a : Alg) (s : System) (fit : SystemFits a s) where
 
   pub keeps : verdict a (passU a s) ≡ verdict a s
   keeps =
-      let (q, eq, eh) = at-map headerOf (s .equations) (s .start) (fit .header) (fit .there) in
+      let (q, eq, eh) = at-map-some headerOf (s .equations) (s .start) (fit .header) (fit .there) in
       truth-kept (s .start, s .values) q eq start-kept
 
   -- what it writes fits
@@ -191,7 +183,7 @@ module _ (a : Alg) (s : System) (fit : SystemFits a s) where
 
   header-at : (j : ℕ) (h : Header) → at (map headerOf (s .equations)) j ≡ Some h → getD mask j false ≡ true → at (map headerOf them) (place mask j) ≡ Some h
   header-at j h p k =
-      let (q, eq, eh) = at-map headerOf (s .equations) j h p in
+      let (q, eq, eh) = at-map-some headerOf (s .equations) j h p in
       at-mapped headerOf them (place mask j) (renamed (place mask) q)
       (at-mapped (renamed (place mask)) (strike mask (s .equations)) (place mask j) q (strike-at mask j (s .equations) q k eq)) ∙ ap Some eh
 
@@ -229,7 +221,7 @@ module _ (a : Alg) (s : System) (fit : SystemFits a s) where
   fits =
       let start-there = header-at (s .start) (fit .header) (fit .there) start-kept in
       record {
-        some = omega (arith, here-low (map headerOf them) (place mask (s .start)) (fit .header) start-there, length-map them headerOf);
+        some = omega (arith, at-lt (map headerOf them) (place mask (s .start)) (fit .header) start-there, length-map them headerOf);
         few = omega (arith, fit .few, strike-short mask (s .equations), length-map (strike mask (s .equations)) (renamed (place mask)));
         headers = every-mapped (HeaderFits a) headerOf them
             (every-mapped (λ e. HeaderFits a (headerOf e)) (renamed (place mask)) (strike mask (s .equations))

@@ -1,8 +1,7 @@
 -- The least knowledge lies below every stable one.
-use mathlib.Core.Path.{_≡_, refl, sym, _∙_, ap, ap₂, subst, subst₂}
-use mathlib.Core.Bool.{Bool, true, false, _&&_, _||_, true≢false, false≢true}
+use mathlib.Core.Path.{_≡_, refl, sym, subst}
+use mathlib.Core.Bool.{Bool, true, false, false≢true}
 use mathlib.Core.List.{List, [], _∷_, _++_, map}
-use mathlib.Core.Logic.{_⊎_, inl, inr}
 use Prim.Native.Nat.{ℕ, zero, suc, _+_}
 use native.Mathlib.Omega.{arith}
 use lib.Dec.{eqb}
@@ -12,9 +11,9 @@ use Rattle.std.specs.declared.option.Option.{Option}
 use Rattle.std.specs.declared.option.Option.the-variants.{None, Some}
 use Rattle.definitions.specs.Lists.{at, bind, whole, flat, each, times}
 use Rattle.definitions.specs.Alg.{Alg}
-use Rattle.definitions.specs.Systems.{Kind, parameter, variable, value, operation, not, and, or, equal, Term, Terms, node, none, more, fold, folds, Occurrence, Clause, Equation, System}
+use Rattle.definitions.specs.Systems.{Kind, parameter, variable, value, operation, not, and, or, equal, Term, Terms, node, none, more, folds, Occurrence, Clause, Equation, System}
 use Rattle.definitions.specs.Values.{known, kindKnown, isTrue, isFalse, both, either}
-use Rattle.definitions.specs.Constants.{Known, Knowledge, agreed, agreedAll, taken, Brought, clauseBrings, equationBrings, allBring, brought, learnt, learntAll, valueBelow, knownBelow, reachedBelow, below, stable, unreached, height, leastKnowledge}
+use Rattle.definitions.specs.Constants.{Known, Knowledge, agreed, agreedAll, taken, Brought, clauseBrings, equationBrings, allBring, brought, learnt, learntAll, valueBelow, knownBelow, reachedBelow, below, stable, height, leastKnowledge}
 
 -- y is x, or not known
 pub data Under {A : Type 0} : Option A → Option A → Type 0 where

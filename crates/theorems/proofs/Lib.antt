@@ -1,57 +1,56 @@
-mod Agrees
-mod Algebraic
-mod Answerables
-mod Back
-mod Blocks
-mod BlocksC
-mod BooleanBack
-mod BooleanForth
-mod Closing
-mod Cut
-mod Enough
-mod Evaluates
-mod ExamplesHold
-mod Expanding
-mod Expands
-mod Fields
-mod FitsC
-mod FitsCut
-mod FitsF
-mod Forms
-mod Forth
-mod Goods
-mod Histories
-mod KeepsC
-mod KeepsCut
-mod KeepsF
-mod KeepsR
-mod KeepsU
-mod Knows
-mod Lightness
-mod Listing
-mod Marks
-mod Monotone
-mod Numbers
-mod Packs
-mod PassRules
-mod Ranges
-mod RangesC
-mod Reaching
-mod Refit
-mod Repack
-mod RoundStrict
-mod Settled
-mod Shapes
-mod ShapesC
-mod Solutions
-mod Sounds
-mod Stable
-mod Starts
-mod Strict
-mod TableFiles
-mod Tight
-mod Tokens
-mod TruthsC
-mod UniqueFiles
-mod Weights
-mod Whole
+pub mod Agrees
+pub mod Algebraic
+pub mod Answerables
+pub mod Back
+pub mod Blocks
+pub mod BooleanBack
+pub mod BooleanForth
+pub mod Closing
+pub mod Cut
+pub mod Enough
+pub mod Evaluates
+pub mod ExamplesHold
+pub mod Expanding
+pub mod Expands
+pub mod Fields
+pub mod FitShapes
+pub mod FitsC
+pub mod FitsCut
+pub mod FitsF
+pub mod Forms
+pub mod Forth
+pub mod Goods
+pub mod Histories
+pub mod KeepsC
+pub mod KeepsCut
+pub mod KeepsF
+pub mod KeepsR
+pub mod KeepsU
+pub mod Knows
+pub mod Lightness
+pub mod Listing
+pub mod Marks
+pub mod MisreadingsFail
+pub mod Monotone
+pub mod Numbers
+pub mod Packs
+pub mod PassRules
+pub mod Ranges
+pub mod Reaching
+pub mod Refit
+pub mod Repack
+pub mod RoundStrict
+pub mod Settled
+pub mod Shapes
+pub mod Solutions
+pub mod Sounds
+pub mod Stable
+pub mod Starts
+pub mod Strict
+pub mod TableFiles
+pub mod Tight
+pub mod Tokens
+pub mod TruthsC
+pub mod UniqueFiles
+pub mod Weights
+pub mod Whole

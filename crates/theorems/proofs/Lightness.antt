@@ -1,22 +1,18 @@
 -- The weight of a system is at most the number of bits of its file, and settling keeps the verdict.
-use mathlib.Core.Path.{_≡_, refl, sym, _∙_, ap, subst}
+use mathlib.Core.Path.{_≡_, refl, ap}
 use mathlib.Core.Bool.{Bool, true, false}
 use mathlib.Core.List.{List, [], _∷_, _++_, map}
-use Prim.Native.Nat.{ℕ, zero, suc, _+_, _*_, _/_, _≤_, _<_}
+use Prim.Native.Nat.{ℕ, suc, _+_, _/_, _≤_}
 use native.Mathlib.Omega.{arith}
 use lib.ListN.{length, length-append}
-use Rattle.std.specs.declared.option.Option.{Option}
-use Rattle.std.specs.declared.option.Option.the-variants.{None, Some}
 use Rattle.definitions.specs.Lists.{flat, sum}
-use Rattle.definitions.specs.Bits.{bits, packed}
-use Rattle.definitions.specs.Alg.{Alg, Lawful}
+use Rattle.definitions.specs.Bits.{bits}
 use Rattle.definitions.specs.Solution.{Sign, least, greatest}
-use Rattle.definitions.specs.Systems.{Kind, parameter, variable, value, operation, not, and, or, equal, Term, Terms, node, none, more, fold, folds, Quantifier, exists, forall, Quantified, Occurrence, Clause, Equation, System}
+use Rattle.definitions.specs.Systems.{Kind, parameter, variable, value, operation, not, and, or, equal, Term, Terms, node, none, more, folds, Quantifier, exists, forall, Quantified, Occurrence, Clause, Equation, System}
 use Rattle.definitions.specs.Reading.{Reading, got, bad}
 use Rattle.definitions.specs.ReadSystem.{reading}
-use Rattle.definitions.specs.Written.{kindBits, termBits, signBits, quantifierBits, headerBits, occurrenceBits, clauseBits, bodyBits, systemBits, written}
+use Rattle.definitions.specs.Written.{kindBits, termBits, signBits, quantifierBits, headerBits, occurrenceBits, clauseBits, bodyBits, systemBits}
 use Rattle.definitions.specs.Settle.{kindWeight, termWeight, occurrenceWeight, clauseWeight, falseTerm, fullness, equationWeight, weight, roundsFor}
-use Rattle.definitions.specs.Calls.{Bytes}
 use Rattle.theorems.specs.SettleLaws.{Weight-within-bits, Rounds-within-limit, Settling-keeps-verdict}
 use Rattle.theorems.proofs.PassRules.{passes-rule}
 use Rattle.theorems.proofs.Histories.{moves-settle}

@@ -1,30 +1,26 @@
 -- The parameters that reach a mark are closed: what they depend on is among them.
-use Prim.Native.Nat.{ℕ, zero, suc, _+_, _*_, _<_, _≤_}
-use mathlib.Core.Path.{_≡_, refl, sym, _∙_, ap, ap₂, subst}
-use mathlib.Core.Bool.{Bool, true, false, _||_, le, true≢false, false≢true}
+use Prim.Native.Nat.{ℕ, zero, suc, _+_, _<_, _≤_}
+use mathlib.Core.Path.{_≡_, refl, sym, _∙_, ap, ap₂}
+use mathlib.Core.Bool.{Bool, true, false, _||_, false≢true}
 use mathlib.Core.List.{List, [], _∷_, _++_, map, List·Memᴰ, List·Memᴰ·head, List·Memᴰ·tail, Memᴰ·map, Memᴰ·cast, Memᴰ·append-left, Memᴰ·append-right}
-use mathlib.Core.Logic.{_⊎_, inl, inr}
-use native.Mathlib.Nat.{zero-add, one-mul, le-refl}
+use native.Mathlib.Nat.{zero-add}
 use native.Mathlib.Decide.{decLe}
 use native.Mathlib.Omega.{arith}
-use lib.Dec.{eqb}
 use lib.ListN.{length, getD, length-append, length-map}
-use Rattle.std.proofs.shelf.Tests.{or-left, or-right, or-cases, eq-eqb}
-use Rattle.std.specs.declared.option.Option.{Option}
-use Rattle.std.specs.declared.option.Option.the-variants.{None, Some}
-use Rattle.definitions.specs.Lists.{at, flat, each, some, sum, times, from, upTo, strike}
+use Rattle.std.proofs.shelf.Tests.{or-left, or-right, eq-eqb}
+use Rattle.std.specs.declared.option.Option.the-variants.{Some}
+use Rattle.definitions.specs.Lists.{at, flat, some, sum, from, upTo, strike}
 use Rattle.definitions.specs.Alg.{Alg}
-use Rattle.definitions.specs.Systems.{Kind, parameter, variable, value, operation, not, and, or, equal, Term, Terms, node, none, more, fold, folds, Occurrence, Clause, Equation, System}
+use Rattle.definitions.specs.Systems.{Kind, parameter, variable, value, operation, not, and, or, equal, Term, Terms, node, none, more, folds, Occurrence, Clause, Equation, System}
 use Rattle.definitions.specs.Passes.{isParameter, occursIn, marked, occurrences, feeds, marks, needed}
-use Rattle.definitions.specs.Fits.{Every, headerOf, BodyFits, ClauseFits, OccurrenceFits, SystemFits}
+use Rattle.definitions.specs.Fits.{Every, headerOf, BodyFits, SystemFits}
 use Rattle.definitions.specs.ReadSystem.{scope}
 use Rattle.fixpoint.proofs.Rounds.{pick}
 use Rattle.theorems.proofs.Closing.{closes}
-use Rattle.theorems.proofs.Monotone.{every-map, every-of, orders, some-is}
-use Rattle.theorems.proofs.RangesC.{some-same, none-some}
-use Rattle.theorems.proofs.Cut.{OnKinds, OnAll, OnParameters, fits-scoped, terms-fit, getD-at}
-use Rattle.theorems.proofs.ShapesC.{every-at, every-two, at-mapped}
-use Rattle.theorems.proofs.KeepsCut.{Keeps, ClosedClause, Closed}
+use Rattle.theorems.proofs.Listing.{every-map, every-of, getD-at, every-at, every-two, at-mapped, at-lt, from-long}
+use Rattle.theorems.proofs.Monotone.{orders, some-is}
+use Rattle.theorems.proofs.Cut.{OnKinds, OnAll, OnParameters, fits-scoped, terms-fit}
+use Rattle.theorems.proofs.KeepsCut.{Keeps, Closed}
 use Rattle.theorems.proofs.Refit.{strike-every}
 
 -- some and or
@@ -142,10 +138,6 @@ abbrev places : ℕ → List Equation → List (ℕ × ℕ)
 places k [] = []
 places k (e ∷ es) = map (λ n. (k, n)) (upTo (length (e .sorts))) ++ places (suc k) es
 
-pub from-long : (k n : ℕ) → length (from k n) ≡ n
-from-long k zero = refl
-from-long k (suc n) = ap suc (from-long (suc k) n)
-
 pub from-mem : (k n v : ℕ) → k ≤ v → v < k + n → List·Memᴰ v (from k n)
 from-mem k zero v l h = absurd (omega arith)
 from-mem k (suc n) v l h = go (decLe v k) (λ q. from-mem (suc k) n v q (omega arith))
@@ -197,11 +189,6 @@ getD-from g k zero i l = absurd (omega arith)
 getD-from g k (suc n) zero l = ap g (omega arith)
 getD-from g k (suc n) (suc i) l = getD-from g (suc k) n i (omega arith) ∙ ap g (omega arith)
 
-pub at-low : (xs : List ℕ) (n x : ℕ) → at xs n ≡ Some x → n < length xs
-at-low [] n x e = absurd (none-some x e)
-at-low (y ∷ xs) zero x e = omega arith
-at-low (y ∷ xs) (suc n) x e = omega (arith, at-low xs n x e)
-
 -- the masks of R are closed
 module _ (a : Alg) (s : System) (fit : SystemFits a s) (i : ℕ) (e : Equation) (p : at (s .equations) i ≡ Some e) where
   abbrev masks : List (List Bool)
@@ -211,7 +198,7 @@ module _ (a : Alg) (s : System) (fit : SystemFits a s) (i : ℕ) (e : Equation) 
   kept n r l h =
       needed-closed s (i, n)
       (ap (λ z. getD z n false) (getD-at [] (marks s masks) i _ (at-mapped (λ (e : Equation). map (λ k. marked e k || feeds masks e k) (upTo (length (e .sorts)))) (s .equations) i e p)) ∙
-      getD-from (λ k. marked e k || feeds masks e k) 0 (length (e .sorts)) n (at-low (e .sorts) n r l) ∙
+      getD-from (λ k. marked e k || feeds masks e k) 0 (length (e .sorts)) n (at-lt (e .sorts) n r l) ∙
       ap (λ z. marked e z || feeds masks e z) (zero-add n) ∙ h)
 
   kind-kept : (k : Kind) → OnParameters (λ n. (r : ℕ) × (at (e .sorts) n ≡ Some r)) k → OnParameters (λ n. (marked e n || feeds masks e n) ≡ true) k →

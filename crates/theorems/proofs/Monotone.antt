@@ -1,7 +1,7 @@
 -- Bodies compared part by part, under a relation of truths: equal where the parts are, and monotone in the assignment.
 use Rattle.fixpoint.proofs.Truths.{implies, implied}
-use Prim.Native.Nat.{ℕ, zero, suc, _+_, _<_, _≤_}
-use mathlib.Core.Path.{_≡_, refl, sym, _∙_, ap, ap₂, subst, subst₂}
+use Prim.Native.Nat.{ℕ, zero, suc, _+_, _<_}
+use mathlib.Core.Path.{_≡_, refl, sym, ap, ap₂, subst}
 use mathlib.Core.Bool.{Bool, true, false, le, _&&_, true≢false, false≢true}
 use mathlib.Core.List.{List, [], _∷_, _++_, map, append-assoc}
 use native.Mathlib.Omega.{arith}
@@ -10,32 +10,17 @@ use Rattle.std.specs.declared.option.Option.{Option}
 use Rattle.std.specs.declared.option.Option.the-variants.{None, Some}
 use Rattle.definitions.specs.Lists.{at, each, some, from, upTo}
 use Rattle.definitions.specs.Alg.{Alg, within}
-use Rattle.definitions.specs.Systems.{Quantifier, exists, forall, Quantified, Occurrence, Clause, Equation, System}
+use Rattle.definitions.specs.Systems.{Quantifier, exists, forall, Quantified, Clause, Equation, System}
 use Rattle.definitions.specs.Values.{holds}
 use Rattle.definitions.specs.Truth.{Instance, sizeOf, ranging, under, meant, clauseHolds, insideHolds, equationHolds, body}
 use Rattle.definitions.specs.Fits.{Every}
 use Rattle.definitions.specs.Order.{truths, Monotone}
 use Rattle.fixpoint.proofs.Rounds.{pick}
-
-pub every-map : {A : Type 0} {P Q : A → Type 0} (xs : List A) → ((x : A) → P x → Q x) → Every P xs → Every Q xs
-every-map [] f h = tt
-every-map (x ∷ xs) f h = (f x (h .0), every-map xs f (h .1))
-
-pub every-of : {A : Type 0} {P : A → Type 0} (xs : List A) → ((x : A) → P x) → Every P xs
-every-of [] f = tt
-every-of (x ∷ xs) f = (f x, every-of xs f)
+use Rattle.theorems.proofs.Listing.{every-of}
 
 pub every-from : {P : ℕ → Type 0} (k n : ℕ) → ((v : ℕ) → v < k + n → P v) → Every P (from k n)
 every-from k zero f = tt
 every-from k (suc n) f = (f k (omega arith), every-from (suc k) n (λ v l. f v (omega arith)))
-
-pub each-map : {A B : Type 0} (q : B → Bool) (f : A → B) (xs : List A) → each q (map f xs) ≡ each (λ x. q (f x)) xs
-each-map q f [] = refl
-each-map q f (x ∷ xs) = ap (λ z. pick (q (f x)) z false) (each-map q f xs)
-
-pub some-map : {A B : Type 0} (q : B → Bool) (f : A → B) (xs : List A) → some q (map f xs) ≡ some (λ x. q (f x)) xs
-some-map q f [] = refl
-some-map q f (x ∷ xs) = ap (λ z. pick (q (f x)) true z) (some-map q f xs)
 
 -- a relation of truths that and and or keep
 pub record Logical (ρ : Bool → Bool → Type 0) : Type 0 where

@@ -6,7 +6,6 @@ use mathlib.Core.Logic.{_⊎_, inl, inr}
 use Prim.Native.Nat.{ℕ, zero, suc, _+_, _<_, _≤_}
 use native.Mathlib.Omega.{arith}
 use native.Mathlib.Decide.{decLt}
-use native.Mathlib.Nat.{le-refl}
 use lib.Dec.{eqb}
 use lib.ListN.{length, drop}
 use Rattle.std.proofs.shelf.Tests.{eqb-true, eq-eqb}
@@ -16,11 +15,10 @@ use Rattle.definitions.specs.Lists.{at, same, some, flat}
 use Rattle.definitions.specs.Alg.{Alg}
 use Rattle.definitions.specs.Systems.{System}
 use Rattle.definitions.specs.Truth.{Instance}
-use Rattle.definitions.specs.Boolean.{vars, form, sameInstance, come, comes, numbering, numberIn, mostInstances}
+use Rattle.definitions.specs.Boolean.{vars, form, sameInstance, come, comes, numberIn}
 use Rattle.definitions.specs.Fits.{Every}
 use Rattle.definitions.specs.Reach.{ReachedInstance}
-use Rattle.theorems.proofs.Listing.{none-some, some-inj, every-at, every-append, every-with}
-use Rattle.theorems.proofs.Blocks.{and-left, and-right}
+use Rattle.theorems.proofs.Listing.{none-some, some-same, every-at, every-append, every-with, and-left, and-right, at-lt}
 
 abbrev pub Has : {A : Type 0} → List A → A → Type 0
 Has l x = (j : ℕ) × (at l j ≡ Some x)
@@ -60,15 +58,10 @@ some-not x (y ∷ ns) h m = go (some-not x ns) (sameInstance x y) refl h (m .0) 
     go : (some (sameInstance x) ns ≡ false → Has ns x → ⊥) → (b : Bool) → sameInstance x y ≡ b → elim b [ true ↦ true | false ↦ some (sameInstance x) ns ] ≡ false →
         (j : ℕ) → at (y ∷ ns) j ≡ Some x → ⊥
     go ih true e k j q = true≢false k
-    go ih false e k zero q = true≢false (sym (instance-same x y (sym (some-inj y x q))) ∙ e)
+    go ih false e k zero q = true≢false (sym (instance-same x y (sym (some-same y x q))) ∙ e)
     go ih false e k (suc j) q = ih k (j, q)
 
 -- places
-pub at-lt : {A : Type 0} (l : List A) (j : ℕ) (x : A) → at l j ≡ Some x → j < length l
-at-lt [] j x e = none-some x e
-at-lt (y ∷ l) zero x e = omega arith
-at-lt (y ∷ l) (suc j) x e = let h : j < length l = at-lt l j x e in omega arith
-
 at-none : {A : Type 0} (l : List A) (j : ℕ) → at l j ≡ None → length l ≤ j
 at-none [] j e = omega arith
 at-none (y ∷ l) zero e = none-some y (sym e)
@@ -89,7 +82,7 @@ at-last [] x = refl
 at-last (y ∷ l) x = at-last l x
 
 pub at-snoc : {A : Type 0} (l : List A) (x : A) (j : ℕ) (y : A) → at (l ++ (x ∷ [])) j ≡ Some y → (at l j ≡ Some y) ⊎ ((j ≡ length l) × (x ≡ y))
-at-snoc [] x zero y e = inr (refl, some-inj x y e)
+at-snoc [] x zero y e = inr (refl, some-same x y e)
 at-snoc [] x (suc j) y e = none-some y e
 at-snoc (z ∷ l) x zero y e = inl e
 at-snoc (z ∷ l) x (suc j) y e = go (at-snoc l x j y e)
@@ -106,7 +99,7 @@ drop-all (suc k) (x ∷ l) h = drop-all k l (omega arith)
 
 drop-at : {A : Type 0} (k : ℕ) (l : List A) (x : A) → at l k ≡ Some x → drop k l ≡ x ∷ drop (suc k) l
 drop-at k [] x e = none-some x e
-drop-at zero (y ∷ l) x e = ap (λ z. z ∷ l) (some-inj y x e)
+drop-at zero (y ∷ l) x e = ap (λ z. z ∷ l) (some-same y x e)
 drop-at (suc k) (y ∷ l) x e = drop-at k l x e
 
 pub every-has : {A : Type 0} (P : A → Type 0) (l : List A) → ((k : ℕ) (x : A) → at l k ≡ Some x → P x) → Every P l
@@ -210,7 +203,7 @@ module _ (a : Alg) (s : System) where
       go : ((x : Instance) → Every P (come ns (vars (form a s x))) → Every P (comes n a s (suc k) (come ns (vars (form a s x))))) → (o : Option Instance) → at ns k ≡ o →
           Every P (elim o [ None ↦ ns | Some x ↦ comes n a s (suc k) (come ns (vars (form a s x))) ])
       go p None e = h
-      go p (Some x) e = p x (come-keeps P ns (vars (form a s x)) h (step x (every-at P ns k x h e)))
+      go p (Some x) e = p x (come-keeps P ns (vars (form a s x)) h (step x (every-at P ns k x e h)))
 
   pub comes-distinct : (n k : ℕ) (ns : List Instance) → Distinct ns → Distinct (comes n a s k ns)
   comes-distinct zero k ns d = d
@@ -236,7 +229,7 @@ module _ (a : Alg) (s : System) where
       go (yes q) = every-with (Has ns) (Has (come ns (vars (form a s x)))) (vars (form a s y)) (c j y q here) up
       go (no q) =
           let i : j ≡ k = omega arith in
-          let w : x ≡ y = some-inj x y (sym e ∙ ap (at ns) (sym i) ∙ here) in
+          let w : x ≡ y = some-same x y (sym e ∙ ap (at ns) (sym i) ∙ here) in
           subst (λ z. Every (Has (come ns (vars (form a s x)))) (vars (form a s z))) w (come-has ns (vars (form a s x)))
 
   pub comes-closed : (n k : ℕ) (ns : List Instance) → Closed ns ns k → length (comes n a s k ns) ≤ n + k →
@@ -302,7 +295,7 @@ module _ (a : Alg) (s : System) where
   all-reached r n ReachedInstance.start = (0, n .first)
   all-reached r n (ReachedInstance.token {x} {y} k h e) =
       let m = all-reached r n h in
-      every-at (Has r) (vars (form a s x)) k y (n .closed (m .0) x (m .1)) e
+      every-at (Has r) (vars (form a s x)) k y e (n .closed (m .0) x (m .1))
 
 pub number-at : (ns : List Instance) (x : Instance) → Has ns x → at ns (numberIn ns x) ≡ Some x
 number-at [] x m = none-some x (m .1)
@@ -311,5 +304,5 @@ number-at (y ∷ ns) x m = go (number-at ns x) (sameInstance y x) refl (m .0) (m
     go : (Has ns x → at ns (numberIn ns x) ≡ Some x) → (b : Bool) → sameInstance y x ≡ b → (j : ℕ) → at (y ∷ ns) j ≡ Some x →
         at (y ∷ ns) (elim b [ true ↦ 0 | false ↦ suc (numberIn ns x) ]) ≡ Some x
     go ih true e j q = ap Some (instance-eq y x e)
-    go ih false e zero q = absurd (true≢false (sym (instance-same y x (some-inj y x q)) ∙ e))
+    go ih false e zero q = absurd (true≢false (sym (instance-same y x (some-same y x q)) ∙ e))
     go ih false e (suc j) q = ih (j, q)

@@ -1,19 +1,16 @@
 -- The bits of packed bytes, and whole files read back.
-use mathlib.Core.Path.{_≡_, refl, sym, _∙_, ap, ap₂, subst, subst₂}
-use mathlib.Core.Bool.{Bool, true, false, _||_}
+use mathlib.Core.Path.{_≡_, refl, sym, _∙_, ap, ap₂, subst}
 use mathlib.Core.List.{List, [], _∷_, _++_, map, append-nil, append-assoc}
 use Prim.Native.Nat.{ℕ, zero, suc, _+_, _-_, _*_, _/_, _%_, _^_, _<_, _≤_}
-use native.Mathlib.Nat.{add-suc, add-zero, zero-add, add-assoc, mod-eq-of-lt, mod-lt, div-eq-of-lt, suc-add, pow-suc, mul-comm}
+use native.Mathlib.Nat.{zero-add, mod-eq-of-lt, div-eq-of-lt, suc-add, pow-suc, mul-comm}
 use native.Mathlib.Omega.{arith}
 use lib.Arith.{digits-lt}
 use lib.Pow.{high, low, pow-pos}
-use lib.Dec.{leb, eqb, ltb}
-use lib.ListN.{length, getD, drop, take, replicate, length-append, length-replicate}
-use Rattle.std.proofs.shelf.Tests.{le-leb, le-ltb, ne-eqb}
+use lib.ListN.{length, getD, drop, replicate, length-append}
 use Rattle.definitions.specs.Lists.{flat}
 use Rattle.definitions.specs.Bits.{bitAt, field, bits, number, bytesOf, packed, Stands}
 use Rattle.definitions.specs.Fits.{Every}
-use Rattle.theorems.proofs.Fields.{stands-left, stands-right, stands-join}
+use Rattle.theorems.proofs.Fields.{stands-left, stands-right}
 
 -- all bits of a file
 abbrev pub bitsOf : List ℕ → List ℕ

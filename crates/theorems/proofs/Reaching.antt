@@ -1,19 +1,18 @@
 -- R keeps exactly the parameters that reach a mark, and U exactly the equations that are reached.
 use mathlib.Core.Path.{_≡_, refl, sym, _∙_, ap, subst}
 use mathlib.Core.Bool.{Bool, true, false, _||_, false≢true}
-use mathlib.Core.List.{List, [], _∷_, _++_, map, List·Memᴰ, List·Memᴰ·head, List·Memᴰ·tail, List·Memᴰ·not-nil, List·Memᴰ·append-cases}
+use mathlib.Core.List.{List, [], _∷_, map, List·Memᴰ, List·Memᴰ·head, List·Memᴰ·tail, List·Memᴰ·not-nil, List·Memᴰ·append-cases}
 use mathlib.Core.Logic.{_⊎_, inl, inr}
-use Prim.Native.Nat.{ℕ, zero, suc, _+_, _<_, _≤_}
+use Prim.Native.Nat.{ℕ, zero, suc, _<_}
 use native.Mathlib.Nat.{zero-add}
 use native.Mathlib.Omega.{arith}
 use lib.Dec.{eqb}
 use lib.ListN.{length, getD, length-map}
 use Rattle.std.proofs.shelf.Tests.{eqb-true, eq-eqb, or-left, or-right}
-use Rattle.std.specs.declared.option.Option.{Option}
-use Rattle.std.specs.declared.option.Option.the-variants.{None, Some}
-use Rattle.definitions.specs.Lists.{at, some, flat, from, upTo, strike, sum}
+use Rattle.std.specs.declared.option.Option.the-variants.{Some}
+use Rattle.definitions.specs.Lists.{at, some, flat, upTo, strike, sum}
 use Rattle.definitions.specs.Alg.{Alg}
-use Rattle.definitions.specs.Systems.{Term, Occurrence, Clause, Equation, System}
+use Rattle.definitions.specs.Systems.{Occurrence, Clause, Equation, System}
 use Rattle.definitions.specs.ReadSystem.{scope}
 use Rattle.definitions.specs.Solution.{iter}
 use Rattle.definitions.specs.Fits.{Every, headerOf, OccurrenceFits, ClauseFits, BodyFits, SystemFits}
@@ -22,10 +21,9 @@ use Rattle.definitions.specs.Reach.{ReachesMark, is-marked, leads-on, ReachedEq
 use Rattle.theorems.specs.PassLaws.{R-keeps-what-reaches-a-mark, U-keeps-what-is-reached, U-keeps-truths}
 use Rattle.fixpoint.proofs.Rounds.{pick}
 use Rattle.theorems.proofs.Closing.{times-iter}
-use Rattle.theorems.proofs.Cut.{getD-at}
-use Rattle.theorems.proofs.ShapesC.{every-at, at-map, at-mapped}
-use Rattle.theorems.proofs.Marks.{bit, needed-closed, getD-from, true-low, from-long}
-use Rattle.theorems.proofs.KeepsU.{here-low, strike-some, reached-closed, truth-kept}
+use Rattle.theorems.proofs.Listing.{getD-at, every-at, at-map-some, at-mapped, from-long, at-lt}
+use Rattle.theorems.proofs.Marks.{bit, needed-closed, getD-from, true-low}
+use Rattle.theorems.proofs.KeepsU.{strike-some, reached-closed, truth-kept}
 
 or-cases : (p q : Bool) → (p || q) ≡ true → (p ≡ true) ⊎ (q ≡ true)
 or-cases true q h = inl refl
@@ -149,13 +147,13 @@ module _ (a : Alg) (s : System) (fit : SystemFits a s) where
       let (c, mc, mo) = flat-mem-back (λ (c : Clause). c .occurrences) (e .clauses) o m in
       let f = every-mem (OccurrenceFits a (map headerOf (s .equations)) (scope (headerOf e)))
       (every-mem (ClauseFits a (map headerOf (s .equations)) (scope (headerOf e))) (b .fit) mc .fit) mo in
-      let (q, eq, eh) = at-map headerOf (s .equations) (o .target) (f .header) (f .there) in
-      here-low (s .equations) (o .target) q eq
+      let (q, eq, eh) = at-map-some headerOf (s .equations) (o .target) (f .header) (f .there) in
+      at-lt (s .equations) (o .target) q eq
 
   reaching-reached : {j : ℕ} → ReachedEquation s j → getD (reachable s) j false ≡ true
   reaching-reached is-start =
-      let (q, eq, eh) = at-map headerOf (s .equations) (s .start) (fit .header) (fit .there) in
-      reached-closed s (s .start) (here-low (s .equations) (s .start) q eq) (or-left (eqb (s .start) (s .start)) _ (eq-eqb (s .start) (s .start) refl))
+      let (q, eq, eh) = at-map-some headerOf (s .equations) (s .start) (fit .header) (fit .there) in
+      reached-closed s (s .start) (at-lt (s .equations) (s .start) q eq) (or-left (eqb (s .start) (s .start)) _ (eq-eqb (s .start) (s .start) refl))
   reaching-reached (is-called {i} e o p m r) =
       reached-closed s (o .target) (target-low i e p o m) (or-right (eqb (o .target) (s .start)) _
       (strike-some (calls (o .target)) (reachable s) (s .equations) i e (reaching-reached r) p
@@ -174,7 +172,7 @@ U-truths a law s fit x r =
     truth-kept a s fit x e p k
   where
     reached-low : {j : ℕ} → ReachedEquation s j → j < length (s .equations)
-    reached-low is-start = let (q, eq, eh) = at-map headerOf (s .equations) (s .start) (fit .header) (fit .there) in here-low (s .equations) (s .start) q eq
+    reached-low is-start = let (q, eq, eh) = at-map-some headerOf (s .equations) (s .start) (fit .header) (fit .there) in at-lt (s .equations) (s .start) q eq
     reached-low (is-called {i} e o p m r) = target-low a s fit i e p o m
 
     there : {A : Type 0} (xs : List A) (n : ℕ) → n < length xs → (y : A) × (at xs n ≡ Some y)

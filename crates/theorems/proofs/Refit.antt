@@ -1,21 +1,21 @@
 -- What fits still fits with parameters replaced, removed and renumbered.
 use Prim.Native.Nat.{ℕ, zero, suc, _+_, _<_, _≤_}
-use mathlib.Core.Path.{_≡_, refl, sym, _∙_, ap, ap₂, subst}
+use mathlib.Core.Path.{_≡_, refl, sym, _∙_, ap₂, subst}
 use mathlib.Core.Bool.{Bool, true, false, false≢true}
 use mathlib.Core.List.{List, [], _∷_, map}
 use native.Mathlib.Omega.{arith}
-use lib.ListN.{length, getD}
-use Rattle.std.specs.declared.option.Option.{Option}
-use Rattle.std.specs.declared.option.Option.the-variants.{None, Some}
+use lib.ListN.{getD}
+use Rattle.std.specs.declared.option.Option.the-variants.{Some}
 use Rattle.definitions.specs.Lists.{at, strike, place, mapFrom}
 use Rattle.definitions.specs.Alg.{Alg, Lawful}
-use Rattle.definitions.specs.Systems.{Kind, parameter, variable, value, operation, not, and, or, equal, Term, Terms, node, none, more, term, terms, fold, folds, Equation}
+use Rattle.definitions.specs.Systems.{Kind, parameter, variable, value, operation, not, and, or, equal, Term, Terms, node, none, more, term, terms, folds}
 use Rattle.definitions.specs.Terms.{onParameter, replaced}
 use Rattle.definitions.specs.ReadSystem.{Scope}
 use Rattle.definitions.specs.Fits.{Fits, fit-parameter, fit-variable, fit-value, fit-operation, fit-not, fit-and, fit-or, fit-equal, FitsArgs, fit-none, fit-more, TermsFit, ValuesFit, Every}
 use Rattle.std.proofs.shelf.Tests.{cases-lt}
 use mathlib.Core.Logic.{_⊎_, inl, inr}
-use Rattle.theorems.proofs.RangesC.{some-same, none-some, InSort}
+use Rattle.theorems.proofs.Listing.{some-same, none-some}
+use Rattle.theorems.proofs.Ranges.{InSort}
 
 -- replacing parameters by kinds without parts that fit in their places
 module _ (a : Alg) (c c′ : Scope) (f : ℕ → Kind) (variables : (n s : ℕ) → at (c .variables) n ≡ Some s → at (c′ .variables) n ≡ Some s)
@@ -69,13 +69,6 @@ place-low (m ∷ ms) zero = omega arith
 place-low (true ∷ ms) (suc n) = omega (arith, place-low ms n)
 place-low (false ∷ ms) (suc n) = omega (arith, place-low ms n)
 
-pub strike-short : {A : Type 0} (ms : List Bool) (xs : List A) → length (strike ms xs) ≤ length xs
-strike-short [] xs = omega arith
-strike-short (true ∷ ms) [] = omega arith
-strike-short (false ∷ ms) [] = omega arith
-strike-short (true ∷ ms) (x ∷ xs) = omega (arith, strike-short ms xs)
-strike-short (false ∷ ms) (x ∷ xs) = omega (arith, strike-short ms xs)
-
 pub strike-every : {A : Type 0} (P : A → Type 0) (ms : List Bool) (xs : List A) → Every P xs → Every P (strike ms xs)
 strike-every P [] xs h = tt
 strike-every P (true ∷ ms) [] h = tt
@@ -104,10 +97,6 @@ strike-terms a c c′ r f (true ∷ ms) (s ∷ ss) (t ∷ ts) h = (f s t (h .0),
 strike-terms a c c′ r f (false ∷ ms) (s ∷ ss) (t ∷ ts) h = strike-terms a c c′ r f ms ss ts (h .1)
 
 -- lists changed one by one
-pub mapFrom-long : {A B : Type 0} (k : ℕ) (f : ℕ → A → B) (xs : List A) → length (mapFrom k f xs) ≡ length xs
-mapFrom-long k f [] = refl
-mapFrom-long k f (x ∷ xs) = ap suc (mapFrom-long (suc k) f xs)
-
 pub every-mapFrom : {A B : Type 0} {P : A → Type 0} (Q : B → Type 0) (k : ℕ) (f : ℕ → A → B) (xs : List A) →
     ((j : ℕ) (x : A) → at xs j ≡ Some x → P x → Q (f (k + j) x)) → Every P xs → Every Q (mapFrom k f xs)
 every-mapFrom Q k f [] h p = tt
@@ -115,10 +104,6 @@ every-mapFrom Q k f (x ∷ xs) h p = (
   subst (λ n. Q (f n x)) (omega arith) (h 0 x refl (p .0)),
   every-mapFrom Q (suc k) f xs (λ j y e q. subst (λ n. Q (f n y)) (omega arith) (h (suc j) y e q)) (p .1),
 )
-
-pub every-unmapped : {A B : Type 0} (P : B → Type 0) (f : A → B) (xs : List A) → Every P (map f xs) → Every (λ x. P (f x)) xs
-every-unmapped P f [] h = tt
-every-unmapped P f (x ∷ xs) h = (h .0, every-unmapped P f xs (h .1))
 
 -- a value in range has a value term
 pub value-fits : (a : Alg) → Lawful a → (c : Scope) (d r v : ℕ) → InSort a r v → Fits a c (suc d) r (node (value r v) none)

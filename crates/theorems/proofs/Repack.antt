@@ -1,17 +1,16 @@
 -- A file that is read is the file of its system.
 use Rattle.faults.specs.declared.Reason.the-variants.{BadLength, NotEnded}
-use mathlib.Core.Path.{_≡_, refl, sym, _∙_, ap, ap₂, subst, subst₂}
-use mathlib.Core.Bool.{Bool, true, false, _||_, false≢true, true≢false}
-use mathlib.Core.List.{List, [], _∷_, _++_, map, append-nil}
+use mathlib.Core.Path.{_≡_, refl, sym, _∙_, ap, ap₂, subst}
+use mathlib.Core.Bool.{Bool, true, false, _||_}
+use mathlib.Core.List.{List, [], _∷_, _++_}
 use Prim.Native.Nat.{ℕ, zero, suc, _+_, _-_, _*_, _/_, _%_, _^_, _<_, _≤_}
-use native.Mathlib.Nat.{zero-add, add-zero, mod-eq-of-lt, mod-mod, mod-lt}
+use native.Mathlib.Nat.{zero-add, add-zero, mod-eq-of-lt, mod-mod}
 use native.Mathlib.Numerals.{one-add}
 use native.Mathlib.Omega.{arith}
-use lib.Pow.{mod-pow-add, pow-pos}
+use lib.Pow.{mod-pow-add}
 use lib.Dec.{leb, eqb, ltb}
 use lib.ListN.{length, getD, drop, replicate, length-append, length-replicate}
-use Rattle.std.proofs.shelf.Tests.{leb-true, eqb-true, ltb-false}
-use Rattle.definitions.specs.Lists.{flat}
+use Rattle.std.proofs.shelf.Tests.{leb-true, eqb-true}
 use Rattle.definitions.specs.Bits.{bitAt, field, bits, number, bytesOf, packed, Stands}
 use Rattle.definitions.specs.Alg.{Alg, Lawful}
 use Rattle.definitions.specs.Systems.{System}
@@ -22,7 +21,7 @@ use Rattle.definitions.specs.Fits.{Every, SystemFits}
 use Rattle.theorems.proofs.Fields.{stands-join, field-stands}
 use Rattle.theorems.proofs.Packs.{bitsOf, bit-in, bits-long, bytes-bits, bytes-long, pad-long, pad, bits-zero, pad-none, number-below, every-drop}
 use Rattle.theorems.proofs.Whole.{system-bits}
-use Rattle.theorems.proofs.Sounds.{Sound, Came, sound-system, stands-most}
+use Rattle.theorems.proofs.Sounds.{sound-system, stands-most}
 
 -- lists of one length with the same members
 same-list : (xs ys : List ℕ) → length xs ≡ length ys → ((k : ℕ) → k < length xs → getD xs k 0 ≡ getD ys k 0) → xs ≡ ys

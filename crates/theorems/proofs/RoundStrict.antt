@@ -1,13 +1,8 @@
 -- A round that does not lower the weight changes nothing.
-use mathlib.Core.Path.{_≡_, refl, sym, _∙_, ap, subst}
-use Prim.Native.Nat.{ℕ, _≤_}
+use mathlib.Core.Path.{_∙_}
 use native.Mathlib.Omega.{arith}
-use Rattle.definitions.specs.Alg.{Alg, Lawful}
-use Rattle.definitions.specs.Systems.{System}
-use Rattle.definitions.specs.Fits.{SystemFits}
 use Rattle.definitions.specs.Constants.{passC}
-use Rattle.definitions.specs.Passes.{passF, passR, passU}
-use Rattle.definitions.specs.Settle.{weight}
+use Rattle.definitions.specs.Passes.{passF, passR}
 use Rattle.theorems.specs.SettleLaws.{Changing-rounds-lighter}
 use Rattle.theorems.proofs.PassRules.{passes-rule}
 use Rattle.theorems.proofs.Weights.{C-le, F-le, R-le, U-le}

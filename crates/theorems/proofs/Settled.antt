@@ -17,12 +17,11 @@ use Rattle.definitions.specs.Systems.{System}
 use Rattle.definitions.specs.Reading.{Reading, got, bad}
 use Rattle.definitions.specs.ReadSystem.{reading}
 use Rattle.definitions.specs.Written.{written}
-use Rattle.definitions.specs.Fits.{Every, SystemFits}
+use Rattle.definitions.specs.Fits.{SystemFits}
 use Rattle.definitions.specs.Constants.{passC}
 use Rattle.definitions.specs.Passes.{passF, passR, passU}
-use Rattle.definitions.specs.Settle.{Pass, Ran, wrote, refused, ranOn, run, passes, Round, ended, failed, roundBy, weight, roundsFor, rounds, settle, settled, halted, Settled as Settlement}
-use Rattle.definitions.specs.Rules.{Rules}
-use Rattle.definitions.specs.Calls.{Bytes, Settles, equal, again, Stops, here, later, emptyHalt, Halts, Halted, Settling}
+use Rattle.definitions.specs.Settle.{Pass, Ran, wrote, refused, ranOn, run, passes, Round, ended, failed, roundBy, weight, roundsFor, rounds, settled, halted, Settled as Settlement}
+use Rattle.definitions.specs.Calls.{Bytes, Settles, equal, again, Stops, here, later, emptyHalt, Halts, Settling}
 use Rattle.faults.specs.declared.Reason.{Reason}
 use Rattle.faults.specs.declared.Reason.the-variants.{BadLength}
 use Rattle.faults.specs.declared.PassFault.{PassFault}

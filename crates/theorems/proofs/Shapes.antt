@@ -1,27 +1,26 @@
 -- What expanding makes fits a Boolean file.
-use mathlib.Core.Path.{_≡_, refl, sym, _∙_, ap, ap₂, subst}
+use mathlib.Core.Path.{_≡_, refl, sym, _∙_, ap, subst}
 use mathlib.Core.Bool.{Bool, true, false}
 use mathlib.Core.List.{List, [], _∷_, _++_, map}
-use Prim.Native.Nat.{ℕ, zero, suc, _+_, _-_, _<_, _≤_}
-use native.Mathlib.Nat.{le-refl}
+use Prim.Native.Nat.{ℕ, suc, _+_, _-_, _<_, _≤_}
 use native.Mathlib.Omega.{arith}
 use lib.ListN.{length, length-map}
 use Rattle.std.specs.declared.option.Option.{Option}
-use Rattle.std.specs.declared.option.Option.the-variants.{None, Some}
-use Rattle.definitions.specs.Lists.{at, keep, from, upTo, or-else}
+use Rattle.std.specs.declared.option.Option.the-variants.{Some}
+use Rattle.definitions.specs.Lists.{at, keep, upTo, or-else}
 use Rattle.definitions.specs.Alg.{Alg, Lawful}
-use Rattle.definitions.specs.Systems.{Quantifier, exists, forall, Quantified, Occurrence, Clause, Equation, System}
+use Rattle.definitions.specs.Systems.{Quantifier, exists, forall, Quantified, Clause, Equation, System}
 use Rattle.definitions.specs.ReadSystem.{scope}
 use Rattle.definitions.specs.Values.{holds}
-use Rattle.definitions.specs.Truth.{Instance, sizeOf, meant}
+use Rattle.definitions.specs.Truth.{Instance, meant}
 use Rattle.definitions.specs.Boolean.{Form, known, all, any, var, Forms, nil, cons, forms, count, vars, varsAll, renamed, renamedAll, over, spread, allOf, clauseForm, insideForm, equationForm, form, numberIn, Variable, signAt, variableOf}
-use Rattle.definitions.specs.Fits.{Every, SortFits, headerOf, ClauseFits, BodyFits, SystemFits}
+use Rattle.definitions.specs.Fits.{Every, SortFits, headerOf, ClauseFits, SystemFits}
 use Rattle.definitions.specs.FileFits.{FormFits, fit-known, fit-all, fit-any, fit-var, FormsFit, fit-nil, fit-cons, BooleanFits}
-use Rattle.theorems.proofs.Listing.{none-some, every-at, every-map, every-with, every-all, every-keep}
+use Rattle.theorems.proofs.Listing.{every-at, every-mapped, every-with, every-of, every-keep, every-left, every-right, at-lt, from-long, keep-long}
 use Rattle.theorems.proofs.Ranges.{size-range}
-use Rattle.theorems.proofs.Forms.{every-left, every-right}
-use Rattle.theorems.proofs.Tokens.{InstanceFits, header-at, body-at, every-from}
-use Rattle.theorems.proofs.Numbers.{Has, Numbering, at-lt, number-at, every-has}
+use Rattle.theorems.specs.PassLaws.{InRange}
+use Rattle.theorems.proofs.Tokens.{header-at, body-at}
+use Rattle.theorems.proofs.Numbers.{Has, Numbering, number-at, every-has}
 
 -- depth at most d, one to 256 parts in each all and any
 mutual
@@ -60,18 +59,6 @@ forms-shapes : {I : Type 0} (d : ℕ) (l : List (Form I)) → Every (Shape d) l 
 forms-shapes d [] h = shapes-nil
 forms-shapes d (p ∷ l) h = shapes-cons (h .0) (forms-shapes d l (h .1))
 
-from-long : (k n : ℕ) → length (from k n) ≡ n
-from-long k zero = refl
-from-long k (suc n) = ap suc (from-long (suc k) n)
-
-pub keep-long : {A : Type 0} (q : A → Bool) (l : List A) → length (keep q l) ≤ length l
-keep-long q [] = le-refl 0
-keep-long {A} q (x ∷ l) = go (keep-long q l) (q x)
-  where
-    go : length (keep q l) ≤ length l → (b : Bool) → length {A = A} (elim b [ true ↦ x ∷ keep q l | false ↦ keep q l ]) ≤ suc (length l)
-    go h true = omega arith
-    go h false = omega arith
-
 over-shape : (d : ℕ) (q : Quantifier) (l : List (Form Instance)) → 1 ≤ length l → length l ≤ 256 → Every (Shape d) l → Shape (suc d) (over q l)
 over-shape d exists l low up h = shape-any (rw (forms-count l) low) (rw (forms-count l) up) (forms-shapes d l h)
 over-shape d forall l low up h = shape-all (rw (forms-count l) low) (rw (forms-count l) up) (forms-shapes d l h)
@@ -84,8 +71,8 @@ module _ (a : Alg) (law : Lawful a) where
       subst (λ k. Shape k (spread a (q ∷ qs) vs p)) (let w : suc (length qs + d) ≡ m = omega arith in w)
       (subst (λ (o : Option ℕ). Shape (suc (length qs + d)) (over (q .quantifier) (map (λ v. spread a qs (vs ++ (v ∷ [])) p) (upTo (or-else o 0))))) (sym (n .0 .1 .1))
       (over-shape (length qs + d) (q .quantifier) (map (λ v. spread a qs (vs ++ (v ∷ [])) p) (upTo z)) (rw (long) (size-range a law (q .sort) z (n .0 .1 .1) .0)) (rw long (size-range a law (q .sort) z (n .0 .1 .1) .1))
-      (every-map (Shape (length qs + d)) (λ v. spread a qs (vs ++ (v ∷ [])) p) (upTo z)
-      (every-all (λ v. Shape (length qs + d) (spread a qs (vs ++ (v ∷ [])) p)) (upTo z) (λ v. spread-shape qs d (length qs + d) (vs ++ (v ∷ [])) p refl (n .1) h)))))
+      (every-mapped (Shape (length qs + d)) (λ v. spread a qs (vs ++ (v ∷ [])) p) (upTo z)
+      (every-of (upTo z) (λ v. spread-shape qs d (length qs + d) (vs ++ (v ∷ [])) p refl (n .1) h)))))
     where
       z : ℕ
       z = n .0 .1 .0
@@ -98,7 +85,7 @@ module _ (a : Alg) (law : Lawful a) where
     clause-shape d c low up =
         shape-any (rw (forms-count, length-map) low) (rw (forms-count, length-map) (omega arith))
         (forms-shapes (suc d) (map (λ o. var (meant a ps vs o)) (c .occurrences))
-        (every-map (Shape (suc d)) (λ o. var (meant a ps vs o)) (c .occurrences) (every-all (λ o. Shape (suc d) (var (meant a ps vs o))) (c .occurrences) (λ o. shape-var))))
+        (every-mapped (Shape (suc d)) (λ o. var (meant a ps vs o)) (c .occurrences) (every-of (c .occurrences) (λ o. shape-var))))
 
     allOf-shape : (d : ℕ) (l : List (Form Instance)) → length l ≤ 256 → Every (Shape d) l → Shape (suc d) (allOf l)
     allOf-shape d [] up h = shape-known
@@ -112,14 +99,14 @@ module _ (a : Alg) (law : Lawful a) where
         go true =
             allOf-shape (suc (suc d)) (map (clauseForm a ps vs) (keep (λ (c : Clause). holds a ps vs (c .guard)) (e .clauses)))
             (rw length-map (let k : length (keep (λ (c : Clause). holds a ps vs (c .guard)) (e .clauses)) ≤ length (e .clauses) = keep-long (λ (c : Clause). holds a ps vs (c .guard)) (e .clauses) in omega arith))
-            (every-map (Shape (suc (suc d))) (clauseForm a ps vs) (keep (λ (c : Clause). holds a ps vs (c .guard)) (e .clauses))
+            (every-mapped (Shape (suc (suc d))) (clauseForm a ps vs) (keep (λ (c : Clause). holds a ps vs (c .guard)) (e .clauses))
             (every-keep (λ c. Shape (suc (suc d)) (clauseForm a ps vs c)) (λ (c : Clause). holds a ps vs (c .guard)) (e .clauses)
             (every-with (λ (c : Clause). (1 ≤ length (c .occurrences)) × (length (c .occurrences) ≤ 8)) (λ c. Shape (suc (suc d)) (clauseForm a ps vs c)) (e .clauses) h
             (λ c k. clause-shape d c (k .0) (k .1)))))
         go false = shape-known
 
   module _ (s : System) (fits : SystemFits a s) where
-    pub form-shape : (x : Instance) → InstanceFits a s x → Shape 8 (form a s x)
+    pub form-shape : (x : Instance) → InRange a s x → Shape 8 (form a s x)
     form-shape x h =
         subst (λ o. Shape 8 (equationForm a o (x .1))) (sym (h .there))
         (spread-shape (h .equation .quantified) (suc (suc (suc (5 - length (h .equation .quantified))))) 8 [] (insideForm a (h .equation) (x .1))
@@ -129,11 +116,11 @@ module _ (a : Alg) (law : Lawful a) where
         (every-with (ClauseFits a (map headerOf (s .equations)) (scope (headerOf (h .equation)))) (λ (c : Clause). (1 ≤ length (c .occurrences)) × (length (c .occurrences) ≤ 8))
         (h .equation .clauses) (body-at a law s fits (x .0) (h .equation) (h .there) .fit) (λ c k. (k .some, k .few)))))
 
-    module _ (r : List Instance) (n : Numbering a s r) (fit : Every (InstanceFits a s) r) where
+    module _ (r : List Instance) (n : Numbering a s r) (fit : Every (InRange a s) r) where
       body-fits : (x : Instance) (j : ℕ) → at r j ≡ Some x → FormFits (length (map (variableOf a s r) r)) 8 (renamed (form a s x) (numberIn r))
       body-fits x j e =
           subst (λ m. FormFits m 8 (renamed (form a s x) (numberIn r))) (sym (length-map r (variableOf a s r)))
-          (shape-fits (length r) (numberIn r) (form-shape x (every-at (InstanceFits a s) r j x fit e))
+          (shape-fits (length r) (numberIn r) (form-shape x (every-at (InRange a s) r j x e fit))
           (every-with (Has r) (λ i. numberIn r i < length r) (vars (form a s x)) (n .closed j x e) (λ y m. at-lt r (numberIn r y) y (number-at r y m))))
 
       pub variables-fit : length r ≤ 4096 → BooleanFits (map (variableOf a s r) r)
@@ -141,12 +128,12 @@ module _ (a : Alg) (law : Lawful a) where
           record {
             some = rw length-map (let w : 0 < length r = at-lt r 0 (s .start, s .values) (n .first) in omega arith);
             few = rw length-map up;
-            ranks = every-map (λ (v : Variable). v .rank < 32) (variableOf a s r) r
-                (every-with (InstanceFits a s) (λ x. x .0 < 32) r fit
+            ranks = every-mapped (λ (v : Variable). v .rank < 32) (variableOf a s r) r
+                (every-with (InRange a s) (λ x. x .0 < 32) r fit
                 (λ x h. let w : x .0 < length (s .equations) = at-lt (s .equations) (x .0) (h .equation) (h .there) in let u : length (s .equations) < 32 = fits .few in omega arith));
             sign-of = λ q. signAt (at (s .equations) q);
-            signs = every-map (λ (v : Variable). v .sign ≡ signAt (at (s .equations) (v .rank))) (variableOf a s r) r
-                (every-all (λ x. signAt (at (s .equations) (x .0)) ≡ signAt (at (s .equations) (x .0))) r (λ x. refl));
-            bodies = every-map (λ (v : Variable). FormFits (length (map (variableOf a s r) r)) 8 (v .body)) (variableOf a s r) r
+            signs = every-mapped (λ (v : Variable). v .sign ≡ signAt (at (s .equations) (v .rank))) (variableOf a s r) r
+                (every-of r (λ x. refl));
+            bodies = every-mapped (λ (v : Variable). FormFits (length (map (variableOf a s r) r)) 8 (v .body)) (variableOf a s r) r
                 (every-has (λ x. FormFits (length (map (variableOf a s r) r)) 8 (renamed (form a s x) (numberIn r))) r (λ j x e. body-fits x j e));
           }

@@ -1,18 +1,15 @@
 -- The truths of systems and of Boolean systems are the solutions of their ranked systems.
-use mathlib.Core.Path.{_≡_, sym}
-use mathlib.Core.Bool.{Bool, true, false}
-use mathlib.Core.List.{List, map}
-use Prim.Native.Nat.{ℕ}
+use mathlib.Core.Bool.{false}
+use mathlib.Core.List.{map}
 use Rattle.definitions.specs.Lists.{mapFrom}
 use Rattle.definitions.specs.Order as order
-use Rattle.definitions.specs.Truth.{Instance, body, blockOf, truths}
+use Rattle.definitions.specs.Truth.{body, blockOf, truths}
 use Rattle.definitions.specs.Boolean.{rankBlock, usedRanks}
 use Rattle.theorems.specs.ExpandLaws.{variableTruths}
 use Rattle.theorems.specs.SolutionLaws.{Systems-solved, variableBody, Booleans-solved}
 use Rattle.fixpoint.proofs.Meaning.{one, found}
 use Rattle.theorems.proofs.Monotone.{body-mono}
-use Rattle.theorems.proofs.Enough.{blocks-enough}
-use Rattle.theorems.proofs.Blocks.{ranks-enough}
+use Rattle.theorems.proofs.Enough.{blocks-enough, ranks-enough}
 use Rattle.theorems.proofs.Expands.{variables-mono}
 
 pub systems-solved : Systems-solved

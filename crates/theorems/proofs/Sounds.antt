@@ -1,13 +1,13 @@
 -- What readers have read stands in the file, joined.
 use Rattle.faults.specs.declared.Reason.{Reason}
 use Rattle.faults.specs.declared.Reason.the-variants.{NoEquations, NoSuchSort, NoSuchName, ValueTooLarge}
-use mathlib.Core.Path.{_≡_, refl, sym, _∙_, ap, ap₂, subst, subst₂}
-use mathlib.Core.Bool.{Bool, true, false, false≢true}
+use mathlib.Core.Path.{_≡_, refl, sym, _∙_, ap, ap₂, subst}
+use mathlib.Core.Bool.{Bool, true, false}
 use mathlib.Core.List.{List, [], _∷_, _++_, map}
 use Prim.Native.Nat.{ℕ, zero, suc, _+_, _-_, _*_, _^_, _<_, _≤_}
-use native.Mathlib.Nat.{add-zero, add-assoc}
+use native.Mathlib.Nat.{add-zero}
 use native.Mathlib.Omega.{arith}
-use lib.Dec.{leb, eqb, ltb}
+use lib.Dec.{ltb}
 use lib.ListN.{length, length-append, length-map}
 use Rattle.std.specs.declared.option.Option.{Option}
 use Rattle.std.specs.declared.option.Option.the-variants.{None, Some}
@@ -15,14 +15,13 @@ use Rattle.std.proofs.shelf.Tests.{ltb-true}
 use Rattle.definitions.specs.Lists.{at, bind, flat}
 use Rattle.definitions.specs.Bits.{bits, Stands}
 use Rattle.definitions.specs.Alg.{Alg, Lawful}
-use Rattle.definitions.specs.Solution.{Sign, least, greatest}
-use Rattle.definitions.specs.Systems.{Quantifier, exists, forall, Quantified, Term, Occurrence, Clause, Equation, System}
+use Rattle.definitions.specs.Systems.{Quantified, Term, Equation}
 use Rattle.definitions.specs.Reading.{Step, next, stop, Reader, take, takeFor, follow, give, given, fail, here, below, one-by-one, repeated, _>>=_, _>>_, must}
 use Rattle.definitions.specs.ReadSystem.{Scope, Sorted, Header, scope, signOf, quantifierOf, readSort, readQuantified, readHeader, readTarget, readOf, readOccurrence, readClause, readBody, readValueOf, readSystem, readTerm}
 use Rattle.definitions.specs.Written.{termBits, signBits, quantifierBits, headerBits, occurrenceBits, clauseBits, bodyBits, systemBits}
-use Rattle.definitions.specs.Fits.{Fits, Needs, Every, SortFits, HeaderFits, headerOf, TermsFit, ValuesFit, OccurrenceFits, ClauseFits, BodyFits, SystemFits}
-use Rattle.theorems.proofs.Fields.{stands-left, stands-right, stands-join, Took, took, follow-inv, given-inv, below-inv}
-use Rattle.theorems.proofs.Forth.{sound, Got}
+use Rattle.definitions.specs.Fits.{Fits, Every, SortFits, HeaderFits, headerOf, TermsFit, ValuesFit, OccurrenceFits, ClauseFits, BodyFits, SystemFits}
+use Rattle.theorems.proofs.Fields.{stands-join, took, given-inv, below-inv}
+use Rattle.theorems.proofs.Forth.{sound}
 
 pub stands-most : (f : List ℕ) (p : ℕ) (bs : List ℕ) → Stands f p bs → p + length bs ≤ 8 * length f
 stands-most f p [] h = omega arith

@@ -1,23 +1,24 @@
 -- The least knowledge is stable.
-use mathlib.Core.Path.{_≡_, refl, sym, _∙_, ap, ap₂, subst, subst₂}
-use mathlib.Core.Bool.{Bool, true, false, _&&_, _||_, true≢false, false≢true}
-use mathlib.Core.List.{List, [], _∷_, _++_, map}
+use mathlib.Core.Path.{_≡_, refl, sym, _∙_, ap, ap₂, subst}
+use mathlib.Core.Bool.{Bool, true, false}
+use mathlib.Core.List.{List, [], _∷_, map}
 use mathlib.Core.Logic.{_⊎_, inl, inr}
 use Prim.Native.Nat.{ℕ, zero, suc, _+_, _≤_, _<_}
 use native.Mathlib.Omega.{arith}
 use lib.Dec.{eqb}
-use lib.ListN.{length, getD, length-map}
-use Rattle.std.proofs.shelf.Tests.{eqb-true, eq-eqb, cases-lt}
+use lib.ListN.{length, length-map}
+use Rattle.std.proofs.shelf.Tests.{eqb-true, cases-lt}
 use Rattle.std.specs.declared.option.Option.{Option}
 use Rattle.std.specs.declared.option.Option.the-variants.{None, Some}
 use Rattle.definitions.specs.Lists.{at, bind, flat, each, times, sum}
 use Rattle.definitions.specs.Alg.{Alg}
-use Rattle.definitions.specs.Systems.{Term, Occurrence, Clause, Equation, System}
+use Rattle.definitions.specs.Systems.{Occurrence, Clause, Equation, System}
 use Rattle.definitions.specs.Values.{known, isFalse}
-use Rattle.definitions.specs.Constants.{Known, Knowledge, agreed, agreedAll, taken, Brought, clauseBrings, equationBrings, allBring, brought, learnt, learntAll, knownBelow, reachedBelow, stable, unreached, height, leastKnowledge}
+use Rattle.definitions.specs.Constants.{Known, Knowledge, agreed, agreedAll, Brought, clauseBrings, equationBrings, allBring, brought, learnt, learntAll, reachedBelow, stable, unreached, height, leastKnowledge}
 use Rattle.theorems.specs.KnowledgeLaws.{arities, Shaped}
 use Rattle.definitions.specs.Fits.{Every}
 use Rattle.theorems.proofs.Knows.{Under, same, unknown, Unders, Reached, not-yet, already, Belows, Met, All, trans-unders, from-unders}
+use Rattle.theorems.proofs.Listing.{every-append}
 
 -- knowledge of the right shape
 data Shape : List ℕ → Knowledge → Type 0 where
@@ -27,10 +28,6 @@ data Shape : List ℕ → Knowledge → Type 0 where
 
 abbrev OfShape : List ℕ → List Brought → Type 0
 OfShape ns bs = Every (λ b. at ns (b .0) ≡ Some (length (b .1))) bs
-
-pub every-join : {A : Type 0} (P : A → Type 0) (xs ys : List A) → Every P xs → Every P ys → Every P (xs ++ ys)
-every-join P [] ys h k = k
-every-join P (x ∷ xs) ys h k = (h .0, every-join P xs ys (h .1) k)
 
 -- what is brought has the right shape
 module _ (a : Alg) (ns : List ℕ) where
@@ -51,7 +48,7 @@ module _ (a : Alg) (ns : List ℕ) where
   clauses-shaped : (ks : Known) (cs : List Clause) → Every (λ (c : Clause). Every Fine (c .occurrences)) cs → OfShape ns (flat (map (clauseBrings a ks) cs))
   clauses-shaped ks [] h = tt
   clauses-shaped ks (c ∷ cs) h =
-      every-join (λ b. at ns (b .0) ≡ Some (length (b .1))) (clauseBrings a ks c) (flat (map (clauseBrings a ks) cs)) (clause-shaped ks c (h .0)) (clauses-shaped ks cs (h .1))
+      every-append (λ b. at ns (b .0) ≡ Some (length (b .1))) (clauseBrings a ks c) (flat (map (clauseBrings a ks) cs)) (clause-shaped ks c (h .0)) (clauses-shaped ks cs (h .1))
 
   equation-shaped : (e : Equation) (k : Option Known) → Every (λ (c : Clause). Every Fine (c .occurrences)) (e .clauses) → OfShape ns (equationBrings a e k)
   equation-shaped e None h = tt
@@ -66,7 +63,7 @@ module _ (a : Alg) (ns : List ℕ) where
   all-shaped [] K h = tt
   all-shaped (e ∷ es) [] h = tt
   all-shaped (e ∷ es) (k ∷ K) h =
-      every-join (λ b. at ns (b .0) ≡ Some (length (b .1))) (equationBrings a e k) (allBring a es K) (equation-shaped e k (h .0)) (all-shaped es K (h .1))
+      every-append (λ b. at ns (b .0) ≡ Some (length (b .1))) (equationBrings a e k) (allBring a es K) (equation-shaped e k (h .0)) (all-shaped es K (h .1))
 
 brought-shaped : (a : Alg) (s : System) (K : Knowledge) → Shaped s → OfShape (arities (s .equations)) (brought a s K)
 brought-shaped a s K h = (h .0 ∙ ap Some (sym (length-map (s .values) Some)), all-shaped a (arities (s .equations)) (s .equations) K (h .1))

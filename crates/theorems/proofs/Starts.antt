@@ -2,28 +2,26 @@
 use mathlib.Core.Path.{_≡_, refl, sym, _∙_, ap, subst}
 use mathlib.Core.Bool.{Bool, true, false}
 use mathlib.Core.List.{List, [], _∷_, map}
-use mathlib.Core.Logic.{_⊎_, inl, inr}
-use Prim.Native.Nat.{ℕ, zero, suc, _<_, _≤_}
+use mathlib.Core.Logic.{inl, inr}
+use Prim.Native.Nat.{ℕ, suc}
 use native.Mathlib.Omega.{arith}
 use lib.ListN.{length, getD}
-use Rattle.std.specs.declared.option.Option.{Option}
-use Rattle.std.specs.declared.option.Option.the-variants.{None, Some}
+use Rattle.std.specs.declared.option.Option.the-variants.{Some}
 use Rattle.definitions.specs.Lists.{at, strike}
 use Rattle.definitions.specs.Alg.{Alg, Lawful}
 use Rattle.definitions.specs.Algebras.{truth}
 use Rattle.definitions.specs.Systems.{System, Equation}
-use Rattle.definitions.specs.Reading.{Reading, got, bad}
+use Rattle.definitions.specs.Reading.{got}
 use Rattle.definitions.specs.ReadSystem.{reading, Header}
 use Rattle.definitions.specs.Fits.{SystemFits, ValuesFit, headerOf}
 use Rattle.definitions.specs.Truth.{verdict}
 use Rattle.definitions.specs.Passes.{needed, passR}
-use Rattle.definitions.specs.Boolean.{Variable, booleanReading, solves}
 use Rattle.definitions.specs.Past.{Event, Past, Served, Wrote}
-use Rattle.definitions.specs.Histories.{FirstByte, Kept, Sound, Histories-sound, stays, Alike, EitherWrote, Together, Histories-alike}
+use Rattle.definitions.specs.Histories.{FirstByte, Alike, EitherWrote, Histories-alike}
 use Rattle.theorems.specs.PassLaws.{Removed-values-do-not-matter}
 use Rattle.theorems.proofs.KeepsR.{keeps as keepsR}
 use Rattle.theorems.proofs.PassRules.{passes-rule}
-use Rattle.theorems.proofs.Histories.{Holds, Good, good}
+use Rattle.theorems.proofs.Histories.{good}
 
 strike-alike : (ms : List Bool) (xs ys : List ℕ) → length xs ≡ length ys → ((k : ℕ) → getD ms k false ≡ true → getD xs k 0 ≡ getD ys k 0) → strike ms xs ≡ strike ms ys
 strike-alike [] xs ys l h = refl

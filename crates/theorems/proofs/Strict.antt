@@ -10,23 +10,21 @@ use borrow.Author.Tests.{eqb-true}
 use Rattle.std.specs.declared.option.Option.{Option}
 use Rattle.std.specs.declared.option.Option.the-variants.{None, Some}
 use Rattle.definitions.specs.Lists.{at, sum, mapFrom, strike, place, keep, is-some}
-use Rattle.definitions.specs.Alg.{Alg, Lawful}
-use Rattle.definitions.specs.Systems.{Kind, parameter, variable, value, operation, not, and, or, equal, Term, Terms, node, none, more, terms, term, fold, folds, Quantified, Occurrence, Clause, Equation, System}
-use Rattle.definitions.specs.Solution.{Sign}
+use Rattle.definitions.specs.Alg.{Alg}
+use Rattle.definitions.specs.Systems.{Kind, parameter, variable, value, operation, not, and, or, equal, Term, Terms, node, none, more, terms, term, folds, Quantified, Occurrence, Clause, Equation, System}
 use Rattle.definitions.specs.Values.{known, isFalse}
 use Rattle.definitions.specs.ReadSystem.{Scope, Header, scope}
-use Rattle.definitions.specs.Fits.{Fits, FitsArgs, fit-parameter, fit-variable, fit-value, fit-operation, fit-not, fit-and, fit-or, fit-equal, fit-none, fit-more, Every, TermsFit, OccurrenceFits, ClauseFits, BodyFits, SystemFits, headerOf}
+use Rattle.definitions.specs.Fits.{Fits, FitsArgs, fit-parameter, fit-variable, fit-value, fit-operation, fit-not, fit-and, fit-or, fit-equal, fit-none, fit-more, OccurrenceFits, ClauseFits, BodyFits, SystemFits, headerOf}
 use Rattle.definitions.specs.Terms.{onParameter, replaced, truthTerm, onOccurrence, onClause, cutEquation, cut}
-use Rattle.definitions.specs.Constants.{Known, Knowledge, kindFor, bare, inserted, unknownOf, passC, leastKnowledge}
+use Rattle.definitions.specs.Constants.{Known, kindFor, bare, inserted, unknownOf, passC, leastKnowledge}
 use Rattle.definitions.specs.Passes.{folded, foldeds, foldedAs, foldedEquation, passF, needed, passR, renamed, reachable, passU}
 use Rattle.definitions.specs.Settle.{kindWeight, termWeight, occurrenceWeight, clauseWeight, falseTerm, fullness, equationWeight, weight}
-use Rattle.theorems.proofs.RangesC.{some-same, none-some}
-use Rattle.theorems.proofs.Monotone.{every-map}
-use Rattle.theorems.proofs.ShapesC.{every-at, every-two, at-map, values-long, terms-long}
-use Rattle.theorems.proofs.Cut.{OnKinds, OnAll, OnParameters, on-map, fits-scoped, terms-fit, getD-at, at-mapFrom}
+use Rattle.theorems.proofs.Listing.{every-map, every-at, every-two, at-map-some, getD-at, at-mapFrom, at-lt}
+use Rattle.theorems.proofs.FitShapes.{values-long, terms-long}
+use Rattle.theorems.proofs.Cut.{OnKinds, OnAll, OnParameters, on-map, fits-scoped, terms-fit}
 use Rattle.theorems.proofs.KeepsC.{inserted-sorts}
-use Rattle.theorems.proofs.Weights.{W, map-le, from-le, strike-le, strike-short, keep-le, replaced-le, full-le, full-one, full-two, clause-le, occurrence-le, cut-le, for-le, inserted-le, renamed-same, folded-le, foldeds-le, full-folded, folded-equation}
-use Rattle.theorems.proofs.Tight.{map-tight, map-same, zero-plus, tight-0, same-0, Full, full-strike, full-place, full-of, full-weight, at-low, nothing, no-length, keep-tight}
+use Rattle.theorems.proofs.Weights.{W, map-le, from-le, strike-le, keep-le, replaced-le, full-le, full-one, clause-le, occurrence-le, cut-le, inserted-le, renamed-same, folded-le, foldeds-le, full-folded, folded-equation}
+use Rattle.theorems.proofs.Tight.{map-tight, map-same, zero-plus, tight-0, same-0, Full, full-strike, full-place, full-of, full-weight, nothing, no-length, keep-tight}
 
 -- terms whose parameters stay
 module _ (f : ℕ → Kind) where
@@ -60,7 +58,7 @@ on-parameters f equal h = tt
 
 -- a term that fits stays where the parameters of its scope do
 fits-stays : (a : Alg) (c : Scope) (f : ℕ → Kind) → ((n : ℕ) → n < length (c .parameters) → f n ≡ parameter n) → {d s : ℕ} {t : Term} → Fits a c d s t → replaced f t ≡ t
-fits-stays a c f h {t = t} fit = replaced-stays f t (on-map (on-parameters (λ n (p : (s : ℕ) × (at (c .parameters) n ≡ Some s)). h n (at-low (c .parameters) n (p .0) (p .1)))) t (fits-scoped a c fit))
+fits-stays a c f h {t = t} fit = replaced-stays f t (on-map (on-parameters (λ n (p : (s : ℕ) × (at (c .parameters) n ≡ Some s)). h n (at-lt (c .parameters) n (p .0) (p .1)))) t (fits-scoped a c fit))
 
 -- clauses whose terms and arguments stay
 module _ (a : Alg) (hs : List Header) (c : Scope) (g : ℕ → List Term → List Term) (f : Term → Term)
@@ -93,7 +91,7 @@ module _ (a : Alg) (s : System) (fit : SystemFits a s) (masks : List (List Bool)
 
   target-full : (i : ℕ) (h : Header) → at (map headerOf (s .equations)) i ≡ Some h → Full (getD masks i []) (length (h .sorts))
   target-full i h e =
-      let x = at-map headerOf (s .equations) i h e in
+      let x = at-map-some headerOf (s .equations) i h e in
       subst (λ (h : Header). Full (getD masks i []) (length (h .sorts))) (x .2) (w i (x .0) (x .1))
 
   cut-equation-stays : (i : ℕ) (e : Equation) → at (s .equations) i ≡ Some e → cutEquation masks i e ≡ e
@@ -166,7 +164,7 @@ U-strict a s fit l =
     let es = s .equations in
     let full : Full mask (length es) = full-weight equationWeight equation-heavy mask es (omega (arith, map-le equationWeight (renamed (place mask)) (renamed-same (place mask)) (strike mask es))) in
     let same : (j : ℕ) (h : Header) → at (map headerOf es) j ≡ Some h → place mask j ≡ j =
-    λ j h e. let x = at-map headerOf es j h e in full-place mask (length es) full j (at-low es j (x .0) (x .1)) in
+    λ j h e. let x = at-map-some headerOf es j h e in full-place mask (length es) full j (at-lt es j (x .0) (x .1)) in
     let eqs : map (renamed (place mask)) (strike mask es) ≡ es =
     ap (map (renamed (place mask))) (full-strike mask es full) ∙ map-same (renamed (place mask)) es (every-map es (renamed-stays (place mask) a (map headerOf es) same) (fit .bodies)) in
     ap₂ (λ (es : List Equation) (n : ℕ). record { equations = es; start = n; values = s .values }) eqs (same (s .start) (fit .header) (fit .there))

@@ -1,29 +1,27 @@
 -- A table that fits is read back from its file, and a table file that is read is the file of its table.
-use mathlib.Core.Path.{_≡_, refl, sym, _∙_, ap, ap₂, subst, subst₂}
-use mathlib.Core.Bool.{Bool, true, false}
+use mathlib.Core.Path.{_≡_, sym, _∙_, ap, ap₂, subst}
 use mathlib.Core.List.{List, [], _∷_, _++_, map, append-assoc}
-use Prim.Native.Nat.{ℕ, zero, suc, _+_, _-_, _*_, _^_, _<_, _≤_}
+use Prim.Native.Nat.{ℕ, zero, suc, _+_, _-_, _*_, _<_, _≤_}
 use native.Mathlib.Nat.{zero-add}
 use native.Mathlib.Omega.{arith}
 use lib.Dec.{eqb}
 use lib.ListN.{length, getD}
 use Rattle.std.proofs.shelf.Tests.{eqb-true, eq-eqb}
-use Rattle.std.specs.declared.option.Option.{Option}
-use Rattle.std.specs.declared.option.Option.the-variants.{None, Some}
+use Rattle.std.specs.declared.option.Option.the-variants.{Some}
 use Rattle.faults.specs.declared.Reason.the-variants.{NoSuchSort, ValueTooLarge, TruthSortSize}
 use Rattle.definitions.specs.Lists.{at, flat, product}
 use Rattle.definitions.specs.Bits.{field, Stands, bits, packed}
 use Rattle.definitions.specs.Alg.{sized}
 use Rattle.definitions.specs.Fits.{Every}
 use Rattle.definitions.specs.FileFits.{OpFits, TableFits}
-use Rattle.definitions.specs.Reading.{Reader, next, got, take, takeFor, below, repeated, give, _>>=_}
-use Rattle.definitions.specs.Tables.{TableOp, Table, readSize, readSizes, readSort, readOp, readTable, tableReading, opBits, tableBits, tableWritten}
+use Rattle.definitions.specs.Reading.{Reader, next, take, takeFor, below, repeated}
+use Rattle.definitions.specs.Tables.{TableOp, Table, readSize, readSizes, readSort, readOp, readTable, opBits, tableBits, tableWritten}
 use Rattle.theorems.specs.FileLaws.{Tables-read-back, Tables-written-back}
-use Rattle.theorems.proofs.Listing.{none-some, some-inj, every-with}
+use Rattle.theorems.proofs.Listing.{none-some, some-same, every-with}
 use Rattle.theorems.proofs.Fields.{below-some, below-inv}
 use Rattle.theorems.proofs.Packs.{packs}
 use Rattle.theorems.proofs.Goods.{Good, good-then, good-last, good-take, good-for, good-must, good-here, good-repeated}
-use Rattle.theorems.proofs.Sounds.{Sound, Came, sound-then, sound-last, sound-take, For, sound-for, sound-must, sound-here, sound-repeated, sound-map, stands-most}
+use Rattle.theorems.proofs.Sounds.{Sound, sound-then, sound-last, sound-take, sound-for, sound-must, sound-here, sound-repeated, sound-map, stands-most}
 use Rattle.theorems.proofs.Whole.{Bits, join, number-bits, flat-bits, ends, file-got}
 use Rattle.theorems.proofs.Repack.{repacked, ended-got}
 
@@ -65,7 +63,7 @@ module _ (f : List ℕ) where
       (good-then f (take 4) _ (good-take f 4 (length zs) (omega arith))
       (good-here f _ (λ p.
       good-then f readSize _ (good-size z (h .0))
-      (good-must f (eqb z 2) TruthSortSize p (eq-eqb z 2 (some-inj z 2 e))
+      (good-must f (eqb z 2) TruthSortSize p (eq-eqb z 2 (some-same z 2 e))
       (good-last f (λ (ys : List ℕ). z ∷ ys) (good-repeated f readSize sizeBits zs (every-with SizeFits (λ n. Good f readSize n (sizeBits n)) zs (h .1) good-size)))))))
 
   module _ (sizes : List ℕ) (few : length sizes ≤ 16) (fits : Every SizeFits sizes) where

@@ -1,17 +1,16 @@
 -- Lists whose weights do not fall, and masks that strike nothing.
-use mathlib.Core.Path.{_≡_, refl, sym, _∙_, ap, subst}
+use mathlib.Core.Path.{_≡_, refl, sym, ap, subst}
 use mathlib.Core.Bool.{Bool, true, false}
 use mathlib.Core.List.{List, [], _∷_, map}
 use Prim.Native.Nat.{ℕ, zero, suc, _+_, _<_, _≤_}
 use native.Mathlib.Omega.{arith}
 use native.Mathlib.Nat.{add-zero}
-use lib.ListN.{length, getD}
-use Rattle.std.specs.declared.option.Option.{Option}
-use Rattle.std.specs.declared.option.Option.the-variants.{None, Some}
+use lib.ListN.{length}
+use Rattle.std.specs.declared.option.Option.the-variants.{Some}
 use Rattle.definitions.specs.Lists.{at, sum, mapFrom, strike, place, keep}
 use Rattle.definitions.specs.Fits.{Every}
-use Rattle.theorems.proofs.RangesC.{some-same, none-some}
-use Rattle.theorems.proofs.Weights.{map-le, from-le, strike-le, strike-short, keep-le}
+use Rattle.theorems.proofs.Listing.{some-same, none-some, strike-short}
+use Rattle.theorems.proofs.Weights.{map-le, from-le, strike-le, keep-le}
 
 pub map-tight : {A : Type 0} (w : A → ℕ) (g : A → A) → ((x : A) → w (g x) ≤ w x) → (xs : List A) → sum (map w xs) ≤ sum (map w (map g xs)) → Every (λ x. w x ≤ w (g x)) xs
 map-tight w g h [] l = tt
@@ -75,11 +74,6 @@ full-weight w h ms [] l = tt
 full-weight w h [] (x ∷ xs) l = absurd (omega (arith, h x))
 full-weight w h (true ∷ ms) (x ∷ xs) l = full-weight w h ms xs (omega arith)
 full-weight w h (false ∷ ms) (x ∷ xs) l = absurd (omega (arith, h x, strike-le w ms xs))
-
-pub at-low : {A : Type 0} (xs : List A) (n : ℕ) (x : A) → at xs n ≡ Some x → n < length xs
-at-low [] n x e = absurd (none-some x e)
-at-low (y ∷ xs) zero x e = omega arith
-at-low (y ∷ xs) (suc n) x e = omega (arith, at-low xs n x e)
 
 pub nothing : {A : Type 0} (w : A → ℕ) → ((x : A) → 1 ≤ w x) → (xs : List A) → sum (map w xs) ≤ 0 → xs ≡ []
 nothing w h [] l = refl

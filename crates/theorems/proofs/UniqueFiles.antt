@@ -1,5 +1,5 @@
 -- No two files are read alike.
-use mathlib.Core.Path.{_≡_, sym, _∙_}
+use mathlib.Core.Path.{sym, _∙_}
 use Rattle.theorems.specs.FileLaws.{Unique-files}
 use Rattle.theorems.proofs.Repack.{whole-forth}
 use Rattle.theorems.proofs.BooleanForth.{boolean-forth}

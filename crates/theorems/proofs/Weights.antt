@@ -1,21 +1,21 @@
 -- No pass raises the weight of a system.
-use mathlib.Core.Path.{_≡_, refl, sym, _∙_, ap, subst}
+use mathlib.Core.Path.{_≡_, refl}
 use mathlib.Core.Bool.{Bool, true, false, not as flip}
-use mathlib.Core.List.{List, [], _∷_, _++_, map}
-use Prim.Native.Nat.{ℕ, zero, suc, _+_, _≤_}
+use mathlib.Core.List.{List, [], _∷_, map}
+use Prim.Native.Nat.{ℕ, suc, _+_, _≤_}
 use native.Mathlib.Omega.{arith}
-use lib.Dec.{eqb}
-use lib.ListN.{length, getD}
+use lib.ListN.{getD}
 use Rattle.std.specs.declared.option.Option.{Option}
 use Rattle.std.specs.declared.option.Option.the-variants.{None, Some}
 use Rattle.definitions.specs.Lists.{sum, mapFrom, strike, place, keep}
 use Rattle.definitions.specs.Alg.{Alg}
-use Rattle.definitions.specs.Systems.{Kind, parameter, variable, value, operation, not, and, or, equal, Term, Terms, node, none, more, terms, term, fold, folds, Occurrence, Clause, Equation, System}
+use Rattle.definitions.specs.Systems.{Kind, parameter, variable, value, operation, not, and, or, equal, Term, Terms, node, none, more, terms, term, folds, Occurrence, Clause, Equation, System}
 use Rattle.definitions.specs.Values.{known, isFalse}
-use Rattle.definitions.specs.Terms.{onParameter, replaced, truthTerm, onOccurrence, onClause, cutEquation, cut}
-use Rattle.definitions.specs.Constants.{Known, kindFor, bare, inserted, unknownOf, passC, leastKnowledge}
+use Rattle.definitions.specs.Terms.{onParameter, replaced, onOccurrence, onClause, cutEquation}
+use Rattle.definitions.specs.Constants.{Known, kindFor, inserted, unknownOf, passC, leastKnowledge}
 use Rattle.definitions.specs.Passes.{folded, foldeds, foldedAs, foldedEquation, passF, needed, passR, renamed, reachable, passU}
 use Rattle.definitions.specs.Settle.{kindWeight, termWeight, occurrenceWeight, clauseWeight, falseTerm, fullness, equationWeight, weight}
+use Rattle.theorems.proofs.Listing.{strike-short}
 
 abbrev pub W : Kind → List ℕ → ℕ
 W k parts = kindWeight k + sum parts
@@ -35,12 +35,6 @@ strike-le w [] (x ∷ xs) = omega arith
 strike-le w (m ∷ ms) [] = omega arith
 strike-le w (true ∷ ms) (x ∷ xs) = omega (arith, strike-le w ms xs)
 strike-le w (false ∷ ms) (x ∷ xs) = omega (arith, strike-le w ms xs)
-
-pub strike-short : {A : Type 0} (ms : List Bool) (xs : List A) → length (strike ms xs) ≤ length xs
-strike-short [] xs = omega arith
-strike-short (m ∷ ms) [] = omega arith
-strike-short (true ∷ ms) (x ∷ xs) = omega (arith, strike-short ms xs)
-strike-short (false ∷ ms) (x ∷ xs) = omega (arith, strike-short ms xs)
 
 pub keep-le : {A : Type 0} (w : A → ℕ) (p : A → Bool) (xs : List A) → sum (map w (keep p xs)) ≤ sum (map w xs)
 keep-le w p [] = omega arith

@@ -1,24 +1,22 @@
 -- A system that fits, written, is read back.
-use mathlib.Core.Path.{_≡_, refl, sym, _∙_, ap, ap₂, subst, subst₂}
-use mathlib.Core.Bool.{Bool, true, false, _||_}
+use mathlib.Core.Path.{_≡_, refl, _∙_, ap}
 use mathlib.Core.List.{List, [], _∷_, _++_, map}
-use Prim.Native.Nat.{ℕ, zero, suc, _+_, _-_, _*_, _/_, _%_, _^_, _<_, _≤_}
+use Prim.Native.Nat.{ℕ, zero, suc, _+_, _-_, _*_, _%_, _^_, _<_, _≤_}
 use native.Mathlib.Nat.{zero-add}
 use native.Mathlib.Omega.{arith}
-use lib.Dec.{leb, eqb, ltb}
 use lib.ListN.{length}
-use Rattle.std.proofs.shelf.Tests.{le-leb, le-ltb, ne-eqb, eq-eqb}
+use Rattle.std.proofs.shelf.Tests.{le-leb, le-ltb, ne-eqb}
 use Rattle.definitions.specs.Lists.{flat}
-use Rattle.definitions.specs.Bits.{field, bits, packed, Stands}
+use Rattle.definitions.specs.Bits.{field, bits, packed}
 use Rattle.definitions.specs.Alg.{Alg}
-use Rattle.definitions.specs.Systems.{Kind, parameter, variable, value, operation, not, and, or, equal, Term, Terms, node, none, more, fold, folds, Quantifier, exists, forall, Quantified, Occurrence, Clause, Equation, System}
+use Rattle.definitions.specs.Systems.{Kind, parameter, variable, value, operation, not, and, or, equal, Term, Terms, node, none, more, folds, Quantifier, exists, forall, Quantified, Occurrence, Clause, Equation, System}
 use Rattle.definitions.specs.Solution.{Sign, least, greatest}
-use Rattle.definitions.specs.Reading.{Step, next, stop, Reader, Reading, got, bad, follow, ended, ending, complete, file, must}
+use Rattle.definitions.specs.Reading.{next, Reader, got, ended, ending, complete, file}
 use Rattle.definitions.specs.ReadSystem.{reading, readSystem}
 use Rattle.definitions.specs.Written.{kindBits, termBits, signBits, quantifierBits, headerBits, occurrenceBits, clauseBits, bodyBits, systemBits, written}
 use Rattle.definitions.specs.Fits.{Every, SystemFits}
-use Rattle.theorems.proofs.Goods.{Good, good-system}
-use Rattle.theorems.proofs.Packs.{Packed, packs}
+use Rattle.theorems.proofs.Goods.{good-system}
+use Rattle.theorems.proofs.Packs.{packs}
 
 abbrev pub Bits : List ℕ → Type 0
 Bits bs = Every (λ b. b < 2) bs

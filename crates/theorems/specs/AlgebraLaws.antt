@@ -3,7 +3,7 @@ use mathlib.Core.Path.{_≡_}
 use mathlib.Core.List.{List}
 use Prim.Native.Nat.{ℕ, _≤_}
 use lib.ListN.{length}
-use Rattle.definitions.specs.Alg.{Alg, Lawful}
+use Rattle.definitions.specs.Alg.{Lawful}
 use Rattle.definitions.specs.Algebras.{level, counting}
 use Rattle.definitions.specs.Fits.{Every}
 use Rattle.definitions.specs.FileFits.{TableFits}

@@ -1,7 +1,7 @@
 -- Every call has exactly one answer, and adds itself to every history.
 use mathlib.Core.Path.{_≡_}
-use mathlib.Core.List.{List, [], _∷_}
-use Prim.Native.Nat.{ℕ}
+use mathlib.Core.List.{List, _∷_}
+use Prim.Native.Nat.{ℕ, _≤_}
 use lib.ListN.{length}
 use Rattle.std.specs.declared.result.Result.{Result}
 use Rattle.faults.specs.declared.ReadFault.{ReadFault}
@@ -10,11 +10,11 @@ use Rattle.faults.specs.declared.SettleFault.{SettleFault}
 use Rattle.faults.specs.declared.ExpandFault.{ExpandFault}
 use Rattle.faults.specs.declared.SolveFault.{SolveFault}
 use Rattle.definitions.specs.Alg.{Alg, Lawful}
-use Rattle.definitions.specs.Settle.{Pass, Ran}
+use Rattle.definitions.specs.Settle.{Pass, Ran, run}
 use Rattle.definitions.specs.Rules.{Rules, applied}
 use Rattle.definitions.specs.Calls.{Bytes, Applies, Solving}
 use Rattle.definitions.specs.Past.{Event, loads, runs, letters, settles, expands, Step, Past}
-use Rattle.definitions.specs.Histories.{Sound}
+use Rattle.definitions.specs.Histories.{Follows}
 
 -- every call on a bench with a past has an answer
 pub record Answerable (h : List ℕ) : Type 0 where
@@ -46,6 +46,9 @@ pub record Buffers-answer : Type 0 where
   pub solve-answers : (g before : List ℕ) → (r : Result ℕ SolveFault) × (after : List ℕ) × Solving g before after r
   pub solve-once : (g before after after′ : List ℕ) (q r : Result ℕ SolveFault) → Solving g before after q → Solving g before after′ r → (q ≡ r) × (after ≡ after′)
 
--- a call adds itself to every history of what was held, and the longer history is sound
+-- a run on a bench is the pass on a buffer of 8,192 bytes or more
+abbrev pub Run-is-applied : Type 0
+Run-is-applied = (m : Pass) (a : Alg) (room : ℕ) (f : List ℕ) → 8192 ≤ room → applied m a room f ≡ run m a f
+
 abbrev pub Calls-extend-histories : Type 0
-Calls-extend-histories = (e : Event) (h k : List ℕ) → Step e h k → (es : List Event) → Past es h → Past (e ∷ es) k × Sound (e ∷ es) k
+Calls-extend-histories = (e : Event) (h k : List ℕ) → Step e h k → Follows e h k

@@ -17,7 +17,7 @@ use Rattle.definitions.specs.Truth.{verdict}
 use Rattle.definitions.specs.Constants.{leastKnowledge, passC}
 use Rattle.definitions.specs.Passes.{passR}
 use Rattle.definitions.specs.Settle.{run, wrote, settle, settled}
-use Rattle.definitions.specs.Boolean.{Expanded, made, refused, expandOn, booleanReading, solves, Variable}
+use Rattle.definitions.specs.Boolean.{Expanded, made, refused, expandOn}
 use Rattle.definitions.specs.Tables.{tableReading, table, Table}
 use Rattle.definitions.specs.Calls.{found, solve}
 use Rattle.definitions.specs.Past.{Event, loads, settles, expands, Past}

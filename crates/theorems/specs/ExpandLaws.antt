@@ -1,11 +1,10 @@
 -- What expanding makes, and why it is declined.
 use mathlib.Core.Path.{_≡_}
-use mathlib.Core.Bool.{Bool, true, false}
+use mathlib.Core.Bool.{Bool}
 use mathlib.Core.List.{List, [], _∷_, map}
 use Prim.Native.Nat.{ℕ, _<_, _≤_}
 use lib.ListN.{length}
-use Rattle.std.specs.declared.option.Option.{Option}
-use Rattle.std.specs.declared.option.Option.the-variants.{None, Some}
+use Rattle.std.specs.declared.option.Option.the-variants.{Some}
 use Rattle.faults.specs.declared.ExpandFault.{ExpandFault}
 use Rattle.faults.specs.declared.ExpandFault.the-variants.{Refused}
 use Rattle.faults.specs.declared.Reason.the-variants.{TooManyInstances, BooleanTooLong}
@@ -13,11 +12,11 @@ use Rattle.definitions.specs.Lists.{at, flat}
 use Rattle.definitions.specs.Alg.{Alg, Lawful}
 use Rattle.definitions.specs.Algebras.{truth}
 use Rattle.definitions.specs.Systems.{System}
-use Rattle.definitions.specs.Reading.{Reading, got}
+use Rattle.definitions.specs.Reading.{got}
 use Rattle.definitions.specs.Fits.{SystemFits}
 use Rattle.definitions.specs.Truth.{Instance, truths, verdict}
 use Rattle.definitions.specs.Solution.{solved}
-use Rattle.definitions.specs.Boolean.{booleanWritten, vars, form, come, Variable, variableOf, expanded, rankBlock, bodyAt, usedRanks, solves, Expanded, made, refused, expandSystem, booleanReading}
+use Rattle.definitions.specs.Boolean.{booleanWritten, vars, form, come, Variable, variableOf, expanded, rankBlock, bodyAt, usedRanks, solves, made, refused, expandSystem, booleanReading}
 use Rattle.definitions.specs.Reach.{ReachedInstance}
 use Rattle.definitions.specs.FileFits.{BooleanFits}
 
@@ -72,6 +71,14 @@ pub data Declines (a : Alg) (s : System) (places room : ℕ) : ExpandFault → T
   no-place : Many a s places → Declines a s places room (Refused TooManyInstances)
   no-room : (vs : List Variable) → expanded a s ≡ Some vs → length vs ≤ places → room < length (booleanWritten vs) → Declines a s places room (Refused BooleanTooLong)
   too-long : (vs : List Variable) → expanded a s ≡ Some vs → length vs ≤ places → 65535 < length (booleanWritten vs) → Declines a s places room (Refused BooleanTooLong)
+
+-- nor is it obeyed where they are
+pub record Few (a : Alg) (s : System) (places : ℕ) : Type 0 where
+  pub few : Many a s 4096 → ⊥
+  pub placed : Many a s places → ⊥
+
+abbrev pub Expand-obeyed-rightly : Type 0
+Expand-obeyed-rightly = (a : Alg) → Lawful a → (s : System) → SystemFits a s → (places room : ℕ) (g : List ℕ) (n : ℕ) → expandSystem a places room s ≡ made g n → Few a s places
 
 abbrev pub Expand-declined-rightly : Type 0
 Expand-declined-rightly = (a : Alg) (s : System) (places room : ℕ) (e : ExpandFault) → expandSystem a places room s ≡ refused e → Declines a s places room e

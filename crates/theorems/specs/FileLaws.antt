@@ -1,13 +1,13 @@
 -- Each system, Boolean system and table has exactly one file: it is read back from what is written, and what is read is what is written.
 use mathlib.Core.Path.{_≡_}
-use mathlib.Core.List.{List, [], _∷_, map}
-use Prim.Native.Nat.{ℕ, _+_, _<_, _≤_}
+use mathlib.Core.List.{List}
+use Prim.Native.Nat.{ℕ, _+_, _≤_}
 use lib.ListN.{length}
 use Rattle.std.specs.declared.option.Option.{Option}
 use Rattle.definitions.specs.Bits.{Stands}
 use Rattle.definitions.specs.Alg.{Alg, Lawful}
 use Rattle.definitions.specs.Systems.{Term, System}
-use Rattle.definitions.specs.Reading.{Step, next, got}
+use Rattle.definitions.specs.Reading.{next, got}
 use Rattle.definitions.specs.ReadSystem.{Scope, Sorted, readTerm, reading}
 use Rattle.definitions.specs.Written.{termBits, written}
 use Rattle.definitions.specs.Fits.{Fits, Needs, SystemFits}

@@ -9,3 +9,4 @@ pub mod ExpandLaws
 pub mod CallLaws
 pub mod Sample
 pub mod Examples
+pub mod Misreadings

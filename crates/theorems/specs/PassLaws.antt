@@ -1,18 +1,18 @@
 -- What the passes keep: the truth of each instance that they leave, so the verdict; and the rules of a pass.
 use mathlib.Core.Path.{_≡_}
 use mathlib.Core.Bool.{Bool, true, false}
-use mathlib.Core.List.{List, [], _∷_}
+use mathlib.Core.List.{List, []}
 use mathlib.Core.Logic.{_↔_}
-use Prim.Native.Nat.{ℕ, _<_}
-use lib.ListN.{length, getD}
-use Rattle.std.specs.declared.option.Option.{Option}
+use Prim.Native.Nat.{ℕ}
+use lib.ListN.{getD}
 use Rattle.std.specs.declared.option.Option.the-variants.{None, Some}
 use Rattle.definitions.specs.Lists.{at, mapFrom, strike, place}
 use Rattle.definitions.specs.Alg.{Alg, Lawful, within}
 use Rattle.definitions.specs.Systems.{Term, Equation, System}
 use Rattle.definitions.specs.Values.{valueOf}
 use Rattle.definitions.specs.Fits.{SystemFits}
-use Rattle.definitions.specs.Truth.{Instance, sizesOf, truths, verdict}
+use Rattle.definitions.specs.Truth.{Instance, sizesOf, body, truths, verdict}
+use Rattle.definitions.specs.Terms.{truthTerm}
 use Rattle.definitions.specs.Constants.{Known, leastKnowledge, unknownOf, passC}
 use Rattle.definitions.specs.Passes.{folded, needed, reachable, passF, passR, passU}
 use Rattle.definitions.specs.Reach.{ReachesMark, ReachedEquation}
@@ -53,9 +53,17 @@ abbrev pub C-keeps-truths : Type 0
 C-keeps-truths = (a : Alg) → Lawful a → (s : System) → SystemFits a s → (x : Instance) → InRange a s x → AgreesWithKnown a s x →
     truths a (passC a s) (left (unknowns a s) x) ≡ truths a s x
 
--- F: every term keeps its value in every environment, and every instance its truth
+-- an equation that is not reached becomes bare: no parameters, no quantifiers, h false, no clauses
+abbrev pub C-bares-unreached : Type 0
+C-bares-unreached = (a : Alg) (s : System) (i : ℕ) (e : Equation) → at (s .equations) i ≡ Some e → getD (leastKnowledge a s) i None ≡ None →
+    at (passC a s .equations) i ≡ Some (record { sign = e .sign; sorts = []; quantified = []; h = truthTerm 0; clauses = [] })
+
+-- F: every term keeps its value in every environment, every body what it says, and every instance its truth
 abbrev pub Folding-keeps-values : Type 0
 Folding-keeps-values = (a : Alg) (ps vs : List ℕ) (t : Term) → valueOf a ps vs (folded t a) ≡ valueOf a ps vs t
+
+abbrev pub F-keeps-bodies : Type 0
+F-keeps-bodies = (a : Alg) → Lawful a → (s : System) → SystemFits a s → (f : Instance → Bool) (x : Instance) → body a (passF a s) f x ≡ body a s f x
 
 abbrev pub F-keeps-truths : Type 0
 F-keeps-truths = (a : Alg) → Lawful a → (s : System) → SystemFits a s → (x : Instance) → truths a (passF a s) x ≡ truths a s x

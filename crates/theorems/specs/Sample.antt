@@ -5,7 +5,7 @@ use Prim.Native.Nat.{ℕ}
 use Rattle.definitions.specs.Alg.{Alg}
 use Rattle.definitions.specs.Algebras.{counting}
 use Rattle.definitions.specs.Solution.{least, greatest}
-use Rattle.definitions.specs.Systems.{Kind, parameter, variable, value, operation, not, and, or, equal, Term, term, Occurrence, Clause, Equation, System}
+use Rattle.definitions.specs.Systems.{parameter, value, operation, equal, Term, term, Equation, System}
 
 abbrev pub four : Alg
 four = counting (4 ∷ [])

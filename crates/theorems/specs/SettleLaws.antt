@@ -1,6 +1,6 @@
 -- Settling ends, with exactly one answer.
 use mathlib.Core.Path.{_≡_}
-use mathlib.Core.List.{List, [], _∷_}
+use mathlib.Core.List.{List}
 use Prim.Native.Nat.{ℕ, _≤_, _*_}
 use lib.ListN.{length}
 use Rattle.std.specs.declared.result.Result.{Result}
@@ -8,7 +8,7 @@ use Rattle.std.specs.declared.result.Result.the-variants.{Ok, Err}
 use Rattle.faults.specs.declared.SettleFault.{SettleFault}
 use Rattle.definitions.specs.Alg.{Alg, Lawful}
 use Rattle.definitions.specs.Systems.{System}
-use Rattle.definitions.specs.Reading.{Reading, got}
+use Rattle.definitions.specs.Reading.{got}
 use Rattle.definitions.specs.ReadSystem.{reading}
 use Rattle.definitions.specs.Written.{written}
 use Rattle.definitions.specs.Fits.{SystemFits}

@@ -1,7 +1,7 @@
 -- The truths of a system and of a Boolean system are the solutions of their ranked systems, of which each has exactly one.
 use mathlib.Core.Path.{_≡_}
-use mathlib.Core.Bool.{Bool, true, false}
-use mathlib.Core.List.{List, [], _∷_, map}
+use mathlib.Core.Bool.{Bool, false}
+use mathlib.Core.List.{List, map}
 use Prim.Native.Nat.{ℕ}
 use Rattle.definitions.specs.Lists.{at, mapFrom}
 use Rattle.definitions.specs.Alg.{Alg}

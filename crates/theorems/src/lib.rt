@@ -2,15 +2,16 @@
 //! function; nothing here speaks of how a program works.
 
 ghost use Rattle.theorems.specs.Examples.{Examples};
+ghost use Rattle.theorems.specs.Misreadings.{Misreadings};
 ghost use Rattle.theorems.specs.Evaluation.{Terms-evaluate-in-sort, Arguments-land-in-sorts, Reached-instances-in-range, Known-values-agree};
 ghost use Rattle.theorems.specs.SolutionLaws.{Systems-solved, Booleans-solved};
 ghost use Rattle.theorems.specs.FileLaws.{Terms-read-back, Terms-read-fit, Systems-read-back, Systems-written-back, Booleans-read-back, Booleans-written-back, Tables-read-back, Tables-written-back, Unique-files};
 ghost use Rattle.theorems.specs.AlgebraLaws.{Algebras-lawful};
 ghost use Rattle.theorems.specs.KnowledgeLaws.{Knowledge-stable, Knowledge-least};
-ghost use Rattle.theorems.specs.PassLaws.{C-keeps-truths, Folding-keeps-values, F-keeps-truths, R-keeps-what-reaches-a-mark, R-keeps-truths, Removed-values-do-not-matter, U-keeps-what-is-reached, U-keeps-truths, Passes-keep-rules};
+ghost use Rattle.theorems.specs.PassLaws.{C-keeps-truths, C-bares-unreached, Folding-keeps-values, F-keeps-bodies, F-keeps-truths, R-keeps-what-reaches-a-mark, R-keeps-truths, Removed-values-do-not-matter, U-keeps-what-is-reached, U-keeps-truths, Passes-keep-rules};
 ghost use Rattle.theorems.specs.SettleLaws.{No-pass-heavier, Changing-rounds-lighter, Settling-ends, One-settled-answer, Settle-computes, Weight-within-bits, Rounds-within-limit, Settling-keeps-verdict};
-ghost use Rattle.theorems.specs.ExpandLaws.{Variables-are-reached-instances, Expansion-fits, Expansion-read-and-solved, Expand-declined-rightly};
-ghost use Rattle.theorems.specs.CallLaws.{Calls-answer, Calls-answer-once, Buffers-answer, Calls-extend-histories};
+ghost use Rattle.theorems.specs.ExpandLaws.{Variables-are-reached-instances, Expansion-fits, Expansion-read-and-solved, Expand-obeyed-rightly, Expand-declined-rightly};
+ghost use Rattle.theorems.specs.CallLaws.{Calls-answer, Calls-answer-once, Buffers-answer, Run-is-applied, Calls-extend-histories};
 ghost use Rattle.definitions.specs.Histories.{Verdict-kept};
 
 // The definitions on examples
@@ -18,6 +19,14 @@ ghost use Rattle.definitions.specs.Histories.{Verdict-kept};
 /// What the definitions come to on the sample system, its settled form, and terms at the depth limit.
 pub fn worked_examples() -> u8
     ensures { λ _. ⌜ Examples ⌝ }
+{
+    0
+}
+
+/// Four misreadings, each with a system on which it changes the verdict: C that follows occurrences once, C that keeps the first
+/// of two constants, R that drops a parameter which only feeds another, an inner rank solved once.
+pub fn misreadings_change_verdicts() -> u8
+    ensures { λ _. ⌜ Misreadings ⌝ }
 {
     0
 }
@@ -165,9 +174,23 @@ pub fn c_keeps_truths() -> u8
     0
 }
 
+/// C makes an equation bare that is not reached.
+pub fn c_bares_unreached() -> u8
+    ensures { λ _. ⌜ C-bares-unreached ⌝ }
+{
+    0
+}
+
 /// Folding keeps every term's value in every environment.
 pub fn folding_keeps_values() -> u8
     ensures { λ _. ⌜ Folding-keeps-values ⌝ }
+{
+    0
+}
+
+/// F keeps what every body says of every assignment.
+pub fn f_keeps_bodies() -> u8
+    ensures { λ _. ⌜ F-keeps-bodies ⌝ }
 {
     0
 }
@@ -302,6 +325,13 @@ pub fn expansion_read_and_solved() -> u8
     0
 }
 
+/// Expanding is obeyed only where the reached instances are at most 4,096 and at most the places.
+pub fn expand_obeyed_rightly() -> u8
+    ensures { λ _. ⌜ Expand-obeyed-rightly ⌝ }
+{
+    0
+}
+
 /// Expanding is declined only where the instances or the bytes are too many.
 pub fn expand_declined_rightly() -> u8
     ensures { λ _. ⌜ Expand-declined-rightly ⌝ }
@@ -328,6 +358,13 @@ pub fn calls_answer_once() -> u8
 /// So have a pass on a file and a solve.
 pub fn buffers_answer() -> u8
     ensures { λ _. ⌜ Buffers-answer ⌝ }
+{
+    0
+}
+
+/// A run on a bench is the pass on a buffer of 8,192 bytes or more.
+pub fn run_is_applied() -> u8
+    ensures { λ _. ⌜ Run-is-applied ⌝ }
 {
     0
 }

@@ -1,5 +1,4 @@
 use Rattle.theorems.proofs.terms_read_fit.Needs as need
-use Prim.Native.Nat.{_+_, _<_}
 use native.Mathlib.Omega.{arith}
 use Rattle.theorems.proofs.Forth.{sound}
 
