@@ -26,6 +26,13 @@ use passes::unreachable_equations::UnreachablePass;
 use std::alloc::AllocError;
 use std::alloc::Global;
 use std::io;
+use system::instance::Instance;
+
+// What work memory is filled with.
+const NOBODY: Instance = Instance {
+    equation: 0,
+    values: [0; 15],
+};
 
 // What the bench holds after a call that was obeyed.
 fn held_text(heap: Global, bench: &Bench) -> Result<String, AllocError> {
@@ -190,15 +197,7 @@ fn expansion_text(
     }
 }
 
-// The length of a result.
-fn length_of(result: Result<Expansion, ExpandFault>) -> usize {
-    match result {
-        Ok(expansion) => expansion.len,
-        Err(_) => 0,
-    }
-}
-
-/// Expands what the bench holds, with work memory and buffer of the sizes given; the buffer's front is the last result.
+/// Expands what the bench holds, with work memory and buffer of the sizes given; the file becomes the expansion.
 pub fn expand<G: Algebra>(
     rt: &LibcRuntime,
     desk: &mut Desk,
@@ -207,36 +206,33 @@ pub fn expand<G: Algebra>(
     room: u32,
     label: &str,
 ) -> io::Result<()> {
-    let places = (places as usize).min(desk.work.len());
-    let room = (room as usize).min(desk.out.len());
-    fill_buffer(desk.out);
+    let heap = rt.alloc();
+    let mut work = vec![in heap; NOBODY; (places as usize).min(65536)]?;
+    let mut buffer = vec![in heap; 0u8; (room as usize).min(65536)]?;
+    fill_buffer(buffer.as_mut_slice());
     let bench = desk.bench;
-    let result = bench.expand(alg, &mut desk.work[0..places], &mut desk.out[0..room]);
-    desk.len = length_of(result);
-    let outcome = expansion_text(rt.alloc(), result, part(desk.out, room))?;
+    let result = bench.expand(alg, work.as_mut_slice(), buffer.as_mut_slice());
+    if let Ok(expansion) = result {
+        desk.take(part(buffer.as_slice(), expansion.len));
+    }
+    let outcome = expansion_text(heap, result, buffer.as_slice())?;
     say(rt, label, outcome.as_str())
 }
 
 /// Expands the file, which no bench holds.
 pub fn draw<G: Algebra>(
     rt: &LibcRuntime,
-    desk: &mut Desk,
+    desk: &Desk,
     alg: &G,
     places: u32,
     room: u32,
     label: &str,
 ) -> io::Result<()> {
-    let places = (places as usize).min(desk.work.len());
     let heap = rt.alloc();
+    let mut work = vec![in heap; NOBODY; (places as usize).min(65536)]?;
     let mut buffer = vec![in heap; 0u8; (room as usize).min(65536)]?;
     fill_buffer(buffer.as_mut_slice());
-    let file = Vec::from_slice(heap, desk.made())?;
-    let result = expansion::expand(
-        alg,
-        file.as_slice(),
-        &mut desk.work[0..places],
-        buffer.as_mut_slice(),
-    );
+    let result = expansion::expand(alg, desk.made(), work.as_mut_slice(), buffer.as_mut_slice());
     let outcome = expansion_text(heap, result, buffer.as_slice())?;
     say(rt, label, outcome.as_str())
 }

@@ -20,14 +20,19 @@ fn filled(heap: Global, result: Result<(), TableFault>) -> Result<String, AllocE
     }
 }
 
-/// Fills the counting algebra with sizes, and chooses it.
-pub fn fill_counting(rt: &LibcRuntime, desk: &mut Desk, text: &str, label: &str) -> io::Result<()> {
-    let numbers = read_numbers(text);
+fn sizes_of(numbers: &Numbers) -> [u16; 16] {
     let mut sizes = [0u16; 16];
     for i in 0..16usize {
         sizes[i] = (numbers.values[i] & 0xffff) as u16;
     }
-    let result = desk.counting.fill(&sizes[0..numbers.count.min(16)]);
+    sizes
+}
+
+/// Fills the counting algebra with sizes, and chooses it.
+pub fn fill_counting(rt: &LibcRuntime, desk: &mut Desk, text: &str, label: &str) -> io::Result<()> {
+    let numbers = read_numbers(text);
+    let sizes = sizes_of(&numbers);
+    let result = desk.counting.fill(part(&sizes, numbers.count));
     desk.chosen = Chosen::Counting;
     say(rt, label, filled(rt.alloc(), result)?.as_str())
 }
@@ -73,6 +78,15 @@ fn answer(heap: Global, value: Option<u8>) -> Result<String, AllocError> {
     }
 }
 
+// The numbers behind the first.
+fn arguments_of(numbers: &Numbers) -> [u8; 15] {
+    let mut arguments = [0u8; 15];
+    for k in 0..15usize {
+        arguments[k] = (numbers.values[k + 1] & 0xff) as u8;
+    }
+    arguments
+}
+
 /// What the algebra answers of an operation, and its value at the arguments.
 pub fn ask<G: Algebra>(
     rt: &LibcRuntime,
@@ -82,16 +96,13 @@ pub fn ask<G: Algebra>(
 ) -> io::Result<()> {
     let heap = rt.alloc();
     let op = (numbers.values[0] & 0xff) as u8;
-    let mut arguments = [0u8; 15];
-    for k in 0..15usize {
-        arguments[k] = (numbers.values[k + 1] & 0xff) as u8;
-    }
-    let count = numbers.count.max(1).min(16) - 1;
+    let arguments = arguments_of(numbers);
+    let count = numbers.count.saturating_sub(1);
     let arity = answer(heap, alg.arity(op))?;
     let first = answer(heap, alg.arg_sort(op, 0))?;
     let last = answer(heap, alg.arg_sort(op, 2))?;
     let result = answer(heap, alg.result_sort(op))?;
-    let value = answer(heap, alg.value(op, &arguments[0..count]))?;
+    let value = answer(heap, alg.value(op, part(&arguments, count)))?;
     let text = format!(
         heap,
         "{arity} arguments, first of sort {first}, third of sort {last}, result of sort {result}, value {value}"

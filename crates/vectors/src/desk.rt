@@ -2,7 +2,6 @@
 use algebra::Counting;
 use algebra::Table;
 use bench::Bench;
-use system::instance::Instance;
 
 /// Which algebra is used.
 #[derive(Clone, Copy)]
@@ -12,7 +11,7 @@ pub enum Chosen {
     Table,
 }
 
-/// The algebras, a bench, a file, a buffer for results and work memory.
+/// The algebras, a bench and a file.
 #[derive(Drop)]
 pub struct Desk<'a> {
     pub counting: Counting,
@@ -21,13 +20,10 @@ pub struct Desk<'a> {
     pub bench: Bench,
     pub file: &'a mut [u8],
     pub bits: usize,
-    pub out: &'a mut [u8],
-    pub len: usize,
-    pub work: &'a mut [Instance],
 }
 
 impl<'a> Desk<'a> {
-    pub fn new(file: &'a mut [u8], out: &'a mut [u8], work: &'a mut [Instance]) -> Desk<'a> {
+    pub fn new(file: &'a mut [u8]) -> Desk<'a> {
         Desk {
             counting: Counting::new(),
             table: Table::new(),
@@ -35,20 +31,18 @@ impl<'a> Desk<'a> {
             bench: Bench::new(),
             file,
             bits: 0,
-            out,
-            len: 0,
-            work,
         }
     }
 
     /// The file that the script made.
     pub fn made(&self) -> &[u8] {
-        part(self.file, self.bits / 8 + (self.bits % 8).min(1))
+        let len = bytes_of(self.bits);
+        part(self.file, len)
     }
 
     /// The file has that many bytes: cut, or with zeros behind.
     pub fn set_length(&mut self, len: usize) {
-        let old = self.bits / 8 + (self.bits % 8).min(1);
+        let old = bytes_of(self.bits);
         for i in 0..self.file.len() {
             if i >= old {
                 self.file[i] = 0;
@@ -67,23 +61,31 @@ impl<'a> Desk<'a> {
     /// The file becomes the one that the bench holds.
     pub fn take_held(&mut self) {
         let bench = self.bench;
-        copy_to(bench.held(), self.file);
-        self.bits = 8 * bench.held().len().min(8192);
+        self.take(bench.held());
     }
 
-    /// The file becomes the last result.
-    pub fn take_result(&mut self) {
-        copy_to(part(self.out, self.len), self.file);
-        self.bits = 8 * self.len.min(65536);
+    /// The file becomes another.
+    pub fn take(&mut self, bytes: &[u8]) {
+        copy_to(bytes, self.file);
+        self.bits = 8 * bytes.len().min(65536);
     }
 }
 
-/// The first bytes, or all where there are fewer.
-pub fn part(bytes: &[u8], len: usize) -> &[u8] {
-    if len <= bytes.len() {
-        &bytes[0..len]
+// How many bytes hold the bits.
+fn bytes_of(bits: usize) -> usize {
+    if bits % 8 == 0 {
+        bits / 8
     } else {
-        bytes
+        bits / 8 + 1
+    }
+}
+
+/// The first items, or all where there are fewer.
+pub fn part<T>(items: &[T], len: usize) -> &[T] {
+    if len <= items.len() {
+        &items[0..len]
+    } else {
+        items
     }
 }
 

@@ -37,7 +37,6 @@ use says::say;
 use std::io;
 use std::io::Read;
 use std::str::from_utf8;
-use system::instance::Instance;
 
 // The commands that question an algebra or use it.
 fn act<G: Algebra>(
@@ -89,15 +88,15 @@ fn act_on_chosen(
 fn prepare(desk: &mut Desk, verb: &str, rest: &str) -> bool {
     let numbers = read_numbers(rest);
     let (first, second) = (numbers.values[0], numbers.values[1]);
+    let bits = desk.bits;
     match verb {
         "bits" => desk.bits = put_fields(desk.file, 0, rest),
-        "more" => desk.bits = put_fields(desk.file, desk.bits, rest),
-        "again" => desk.bits = put_again(desk.file, desk.bits, rest),
+        "more" => desk.bits = put_fields(desk.file, bits, rest),
+        "again" => desk.bits = put_again(desk.file, bits, rest),
         "hex" => desk.bits = put_hex(desk.file, rest),
         "length" => desk.set_length(first as usize),
         "byte" => desk.set_byte(first as usize, second),
         "held" => desk.take_held(),
-        "result" => desk.take_result(),
         "new" => desk.bench = Bench::new(),
         "level" => desk.chosen = Chosen::Level,
         _ => return false,
@@ -129,12 +128,7 @@ fn main(rt: LibcRuntime) -> io::Result<()> {
     let mut script = Vec::new(heap);
     rt.stdin().read_to_end(&mut script)?;
     let mut file = vec![in heap; 0u8; 65536]?;
-    let mut out = vec![in heap; 0u8; 65536]?;
-    let mut work = vec![in heap; Instance {
-        equation: 0,
-        values: [0; 15]
-    }; 4100]?;
-    let mut desk = Desk::new(file.as_mut_slice(), out.as_mut_slice(), work.as_mut_slice());
+    let mut desk = Desk::new(file.as_mut_slice());
     let Ok(text) = from_utf8(script.as_slice()) else {
         return say(&rt, "the script", "is no text");
     };
