@@ -15,7 +15,7 @@ pub use table::calls::TableAlgebra;
 
 /// Sorts of finitely many values, and operations on them.
 ///
-/// A number or an argument out of range, or a wrong count of arguments, is answered by none.
+/// What does not exist, or does not fit an operation, is answered by none.
 pub trait Algebra {
     ghost meaning: { Self → Alg };
 

@@ -90,7 +90,7 @@ impl Bench {
         }
     }
 
-    /// Runs C, F, R and U in rounds until a round leaves the file equal, and tells the number of the last round.
+    /// Runs the four passes one after the other, round after round, up to the first round that changes nothing, and tells its number.
     pub fn settle<G: Algebra>(&mut self, alg: &G) -> Result<usize, SettleFault>
         ensures { λ r. ⌜ Keeps (holding (now (self .entry))) (holding (now (self .exit))) r ⌝ }
     {

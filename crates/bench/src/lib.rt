@@ -5,7 +5,7 @@ ghost use mathlib.Core.Path.{_≡_};
 ghost use Prim.Native.Nat.{ℕ, _≤_};
 ghost use lib.ListN.{getD};
 
-/// Holds nothing or a file of 1 to 8,192 bytes, with zeros behind it.
+/// A place for one system file: its bytes in front, zeros in the rest, or nothing but zeros.
 #[derive(Clone, Copy)]
 pub struct Bench {
     bytes: [u8; 8192],

@@ -76,7 +76,7 @@ impl<'a> BitWriter<'a> {
         Ok(())
     }
 
-    /// Writes zero bits up to the byte, and tells how many bytes there are up to there. The place stays.
+    /// Fills the last byte up with zero bits, and tells how many bytes are in use. The place stays.
     pub fn close(&mut self) -> usize
         ensures count { λ r. ⌜ r ≡ (now (self .entry) .at + 7) / 8 ⌝ }
         ensures padded { λ _. ⌜ now (now (self .exit) .bytes) ≡ paddedOut (now (now (self .entry) .bytes)) (now (self .entry) .at) ⌝ }

@@ -87,7 +87,7 @@ abbrev pub spread : Alg → List Quantified → List ℕ → (List ℕ → Form 
 spread a [] vs p = p vs
 spread a (q ∷ qs) vs p = over (q .quantifier) (map (λ v. spread a qs (vs ++ (v ∷ [])) p) (upTo (sizeOf a (q .sort))))
 
--- inside: true if no guard holds, else all over the holding clauses, each an any over its occurrences
+-- behind h: the conjunction of the clauses whose guards hold, each the disjunction of its occurrences
 abbrev pub allOf : List (Form Instance) → Form Instance
 allOf [] = known true
 allOf (p ∷ ps) = all (forms (p ∷ ps))

@@ -33,7 +33,7 @@ pub record BooleanFits (vs : List Variable) : Type 0 where
   pub signs : Every (λ (v : Variable). v .sign ≡ sign-of (v .rank)) vs
   pub bodies : Every (λ (v : Variable). FormFits (length vs) 8 (v .body)) vs
 
--- an operation of a table: its sorts exist, and it has one value for each list of arguments, below the size of its result sort
+-- an operation of a table: its sorts are there, and so are its values, as many as argument lists, each a value of the result sort
 pub record OpFits (sizes : List ℕ) (q : TableOp) : Type 0 where
   pub few : length (q .args) ≤ 3
   pub args : Every (λ s. s < length sizes) (q .args)

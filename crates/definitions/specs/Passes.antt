@@ -28,7 +28,7 @@ abbrev pub foldedAs : Alg → Kind → Option ℕ → Terms → Term
 foldedAs a k (Some v) ts = term (value (sortOf a k) v) []
 foldedAs a k None ts = node k ts
 
--- each part that has a known value, and lies in no larger one that has, becomes a value term
+-- the largest parts with a known value become value terms
 abbrev mutual
   pub folded : Term → Alg → Term
   folded (node k ts) a = foldedAs a k (known a [] (node k ts)) (foldeds ts a)
@@ -67,7 +67,7 @@ isParameter k equal = false
 abbrev pub occursIn : ℕ → Term → Bool
 occursIn k t = fold t (λ kind parts. isParameter k kind || some (λ b. b) parts)
 
--- it occurs in h or a guard
+-- h or one of the guards names it
 abbrev pub marked : Equation → ℕ → Bool
 marked e k = occursIn k (e .h) || some (λ (c : Clause). occursIn k (c .guard)) (e .clauses)
 

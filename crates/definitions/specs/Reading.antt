@@ -86,7 +86,7 @@ repeated r (suc n) = do
   ys ← repeated r n
   give (y ∷ ys)
 
--- zero bits up to the byte, and no further byte
+-- nothing is left but zero padding within the last byte
 abbrev pub ending : Reader (Unit {0})
 ending f p = elim (leb (8 * length f - p) 7) [ true ↦ must (eqb (field f p (8 * length f - p)) 0) NotEnded p f p | false ↦ stop NotEnded p ]
 

@@ -11,7 +11,7 @@ use Rattle.definitions.specs.Systems.{Quantifier, exists, forall, Quantified, 
 use Rattle.definitions.specs.Values.{holds, valuesOf}
 use Rattle.definitions.specs.Solution.{Block, solved}
 
--- an equation with one value per parameter
+-- an equation, and values for its parameters
 abbrev pub Instance : Type 0
 Instance = ℕ × List ℕ
 

@@ -19,7 +19,7 @@ abbrev pub isFalse : Option ℕ → Bool
 isFalse None = false
 isFalse (Some v) = eqb v 0
 
--- false if a part is known false, true if both are known true
+-- one known false side decides; else both must be known true
 abbrev pub both : Option ℕ → Option ℕ → Option ℕ
 both x y = elim (isFalse x || isFalse y) [ true ↦ Some 0 | false ↦ elim (isTrue x && isTrue y) [ true ↦ Some 1 | false ↦ None ] ]
 

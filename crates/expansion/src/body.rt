@@ -67,7 +67,7 @@ fn count_holding<G: Algebra>(alg: &G, outline: &Outline, env: &Environment, file
     Some(count)
 }
 
-// False if h fails, true if no guard holds, else all over the clauses whose guard holds.
+// A constant where h or the lack of holding guards decides, else the clauses whose guards hold.
 fn write_inside<G: Algebra>(alg: &G, outline: &Outline, env: &Environment, file: &[u8], body: BodyAt, list: &mut FirstCome<Instance>, draft: &mut Draft) -> Option<()> {
     if value_at(alg, env, file, body.h) != 1 {
         draft.put(0, 3);

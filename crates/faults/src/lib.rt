@@ -1,6 +1,6 @@
 //! Why a call is declined: the reason with its number, the layer that tells it, and the bit place.
 //!
-//! A reading fault travels whole inside the fault of a pass, and that inside the fault of a settle.
+//! Faults nest: a pass that could not read its file carries the reading fault unchanged, and a settle the fault of its pass.
 ghost use mathlib.Core.Path.{_≡_};
 ghost use Rattle.faults.specs.Faults.{numberOf, ofTable, ofRead, ofPass, ofSettle, ofExpand, ofSolve};
 ghost use Rattle.faults.specs.declared.PassFault.the-variants.{Reading as InPass};
@@ -9,39 +9,39 @@ ghost use Rattle.faults.specs.declared.ExpandFault.the-variants.{Unread};
 /// Why a call is declined.
 #[derive(Clone, Copy, PartialEq, Eq, Debug)]
 pub enum Reason {
-    /// The bench is empty.
+    /// Nothing is held.
     BenchEmpty = 1,
-    /// The file is empty or longer than its kind may be.
+    /// No bytes, or too many: 8,192 for a system, 16,384 for a table, 65,535 for a Boolean file.
     BadLength = 2,
-    /// The file ends inside the field.
+    /// Too few bits are left for a field.
     EndsInField = 3,
-    /// The equation count is 0.
+    /// A system without equations.
     NoEquations = 4,
-    /// The term or body is too deep.
+    /// Nested deeper than terms (32) or bodies (8) may be.
     TooDeep = 5,
-    /// The algebra has no such sort.
+    /// A sort that is not there.
     NoSuchSort = 6,
-    /// A parameter, variable, operation, equation, letter or token kind does not exist.
+    /// A name that stands for nothing: of a parameter, a variable, an operation, an equation, a pass or a token.
     NoSuchName = 7,
-    /// A value is not below its sort's size.
+    /// A value that its sort does not have.
     ValueTooLarge = 8,
-    /// A term has an existing sort, but another than its place needs.
+    /// A term of a sort that does not suit where it stands.
     WrongSort = 9,
-    /// Bits behind the end are not zero, or a byte follows.
+    /// Something other than zero padding behind the content.
     NotEnded = 10,
-    /// The result exceeds its buffer or 8,192 bytes.
+    /// What a pass would write is too long for the buffer or for a system file.
     ResultTooLong = 11,
-    /// There are more than 4,096 instances, or more than the work memory has places.
+    /// More instances than 4,096 or than the lent places.
     TooManyInstances = 12,
-    /// The Boolean file exceeds the buffer or 65,535 bytes.
+    /// What an expand would write is too long for the buffer or for a Boolean file.
     BooleanTooLong = 13,
-    /// A rank has both signs.
+    /// Variables of one rank with different signs.
     RankOfBothSigns = 14,
-    /// The buffer for truths has fewer bytes than there are variables.
+    /// Too little room for the truths.
     TooFewTruths = 15,
-    /// Sort 0 of a table has another size than 2.
+    /// A table whose truth values are not two.
     TruthSortSize = 16,
-    /// More than 15 counting sizes, or one outside 1 to 256.
+    /// Too many sizes for counting sorts, or one that is 0 or above 256.
     BadCountingSizes = 17,
 }
 

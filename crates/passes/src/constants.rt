@@ -1,4 +1,4 @@
-//! C: parameters whose value is known in every reached instance are replaced by value terms and removed.
+//! C: a parameter that has one and the same value wherever its equation is reached gives way to that value.
 use crate::Pass;
 use crate::plan::Plan;
 use crate::rewrite::write_planned;

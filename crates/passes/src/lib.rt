@@ -12,7 +12,7 @@ pub mod unreachable_equations;
 use algebra::Algebra;
 use faults::PassFault;
 
-/// A pass means one system for each system and algebra.
+/// A pass: over each algebra it turns a system into another.
 pub trait Pass {
     /// Writes the file of the meant system to the front of `out`, and tells its length.
     fn apply<G: Algebra>(&self, alg: &G, file: &[u8], out: &mut [u8]) -> Result<usize, PassFault>

@@ -1,4 +1,4 @@
-//! U: equations that no chain of occurrences reaches from the start's equation are removed.
+//! U: only the equations that the start leads to, over any number of occurrences, stay.
 use crate::Pass;
 use crate::plan::Plan;
 use crate::rewrite::write_planned;

@@ -1,6 +1,6 @@
 //! Reads a table file and a system file, settles and expands the system, solves it, and prints the verdict.
 //!
-//! Standard input is two bytes with the length of the table file, the table file, and the system file.
+//! Standard input: the table file, with its length in two bytes before it, and then the system file.
 use algebra::Table;
 use algebra::TableAlgebra;
 use bench::Bench;
@@ -43,7 +43,7 @@ fn print_settled(rt: &LibcRuntime, file: &[u8]) -> io::Result<()> {
     println!(rt, "{line}")
 }
 
-// The table file and the system file of an input; a length that is cut short counts as 0, and missing bytes as the table file's end.
+// The table file and the system file of an input. Fewer than two bytes are no length and no files; a table file may break off.
 fn split_input(input: &[u8]) -> (&[u8], &[u8]) {
     if input.len() < 2 {
         return (&input[0..0], &input[0..0]);

@@ -1,8 +1,8 @@
-//! Instances: an equation with one value per parameter.
+//! Instances: an equation together with values for its parameters.
 ghost use mathlib.Core.Path.{_≡_};
 ghost use Rattle.std.specs.Orderings.{Decides};
 
-/// An equation with one value per parameter; the values behind the last parameter's are 0.
+/// An equation together with values for its parameters, and zeros in the unused places.
 #[derive(Clone, Copy)]
 pub struct Instance {
     pub equation: u8,

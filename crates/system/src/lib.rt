@@ -13,7 +13,7 @@ pub use terms::occur;
 pub use terms::value;
 pub use terms::view;
 
-/// The greatest depth of a term; a term without parts has depth 1.
+/// How deep terms may nest; a parameter, variable or value counts 1.
 pub const DEPTH: u8 = 32;
 
 /// The longest system file, in bytes.

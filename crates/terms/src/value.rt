@@ -38,7 +38,7 @@ impl Environment {
     }
 }
 
-// False if a part is known false, true if both are known true.
+// One known false side decides; else both must be known true.
 fn both(x: Option<u8>, y: Option<u8>) -> Option<u8> {
     match (x, y) {
         (Some(0), _) => Some(0),

@@ -1,4 +1,4 @@
-//! Terms in a file, read where they stand: a term is its kind, with its parts as places in that same file.
+//! Terms in a file, read where they stand: nothing is copied out, and the parts of a term are further places.
 ghost use mathlib.Core.Path.{_≡_};
 ghost use Prim.Native.Nat.{_-_, _^_, _<_, _≤_};
 ghost use Rattle.std.specs.Options.{Cases as BySome};
