@@ -21,7 +21,7 @@ use faults::TableFault;
 
 /// The sizes of the sorts, and the place behind them.
 #[derive(Clone, Copy)]
-pub struct Sizes {
+struct Sizes {
     count: u8,
     sizes: [u16; 16],
     next: usize,
@@ -29,35 +29,35 @@ pub struct Sizes {
 
 /// A size, and the place behind it.
 #[derive(Clone, Copy)]
-pub struct SizeAt {
+struct SizeAt {
     size: u16,
     next: usize,
 }
 
 /// A value, and the place behind it.
 #[derive(Clone, Copy)]
-pub struct ValueAt {
+struct ValueAt {
     value: u8,
     next: usize,
 }
 
 /// A sort, and the place behind it.
 #[derive(Clone, Copy)]
-pub struct SortAt {
+struct SortAt {
     sort: u8,
     next: usize,
 }
 
 /// The sorts of arguments, and the place behind them.
 #[derive(Clone, Copy)]
-pub struct Sorts {
+struct Sorts {
     sorts: [u8; 3],
     next: usize,
 }
 
 /// An operation, how many values it has, and the place behind it.
 #[derive(Clone, Copy)]
-pub struct OperationAt {
+struct OperationAt {
     operation: Operation,
     values: usize,
     next: usize,
@@ -65,7 +65,7 @@ pub struct OperationAt {
 
 /// Operations, and the place behind them.
 #[derive(Clone, Copy)]
-pub struct Operations {
+struct Operations {
     operations: [Operation; 63],
     next: usize,
 }
