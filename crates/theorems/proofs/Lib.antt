@@ -54,3 +54,4 @@ pub mod TruthsC
 pub mod UniqueFiles
 pub mod Weights
 pub mod Whole
+pub mod Main

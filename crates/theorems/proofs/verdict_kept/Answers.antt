@@ -1,7 +1,5 @@
 use Rattle.theorems.proofs.verdict_kept.Needs as need
-use Rattle.theorems.proofs.Starts.{alike}
-use Rattle.theorems.proofs.PassRules.{passes-rule}
-use Rattle.theorems.proofs.Histories.{sound}
+use Rattle.theorems.proofs.Main.{verdict-kept}
 
 pub returns : need.returns
-returns _ = record { one-history = sound passes-rule; two-histories = alike }
+returns _ = verdict-kept
