@@ -6,12 +6,7 @@ use native.Mathlib.Omega.{arith}
 use lib.ListN.{length, getD, drop, take, replicate}
 use lib.Seq.{take-append-seam, drop-append-seam}
 use Rattle.std.proofs.shelf.Lists.{getD-drop}
-use mathlib.Core.Bool.{true}
-use Rattle.std.specs.declared.result.Result.{Result}
-use Rattle.std.specs.declared.result.Result.the-variants.{Ok, Err}
-use Rattle.std.specs.Results.{isErr}
 use Rattle.definitions.specs.Calls.{Delivered}
-use Rattle.bench.specs.Holds.{Keeps}
 
 none : (k : ℕ) → getD {A = ℕ} [] k 0 ≡ 0
 none zero = refl
@@ -29,6 +24,9 @@ seam-front f before after e = ap (take (length f)) e ∙ take-append-seam f (dro
 pub seam-rest : (f before after : List ℕ) → after ≡ f ++ drop (length f) before → drop (length f) after ≡ drop (length f) before
 seam-rest f before after e = ap (drop (length f)) e ∙ drop-append-seam f (drop (length f) before)
 
+pub delivered-front : (g before after : List ℕ) (n : ℕ) → Delivered g before after n → take n after ≡ g
+delivered-front g before after n d = ap (λ m. take m after) (d .long) ∙ seam-front g before after (d .front)
+
 pub delivered-rest : (g before after : List ℕ) (n : ℕ) → Delivered g before after n → drop n after ≡ drop n before
 delivered-rest g before after n d =
     ap (λ m. drop m after) (d .long) ∙ (seam-rest g before after (d .front) ∙ ap (λ m. drop m before) (sym (d .long)))
@@ -37,8 +35,3 @@ pub tail-zero : (n : ℕ) (xs ys : List ℕ) → drop n xs ≡ drop n ys → ((k
 tail-zero n xs ys e z k h =
     let i : n + (k - n) ≡ k = omega arith in
     ap (λ j. getD xs j 0) (sym i) ∙ (sym (getD-drop n xs (k - n) 0) ∙ (ap (λ l. getD l (k - n) 0) e ∙ (getD-drop n ys (k - n) 0 ∙ z (n + (k - n)))))
-
--- a call that is declined leaves what is held
-pub keeps-declined : {X E : Type 0} (h : List ℕ) (r : Result X E) → isErr r ≡ true → Keeps h h r
-keeps-declined h (Ok x) e = tt
-keeps-declined h (Err d) e = refl

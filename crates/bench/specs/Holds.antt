@@ -14,8 +14,3 @@ holding b = take (b .len) (b .bytes)
 abbrev pub Keeps : {X E : Type 0} → List ℕ → List ℕ → Result X E → Type 0
 Keeps before after (Ok x) = Unit {0}
 Keeps before after (Err e) = after ≡ before
-
--- a load that is obeyed holds the file
-abbrev pub Puts : {X E : Type 0} → List ℕ → List ℕ → List ℕ → Result X E → Type 0
-Puts file before after (Ok x) = after ≡ file
-Puts file before after (Err e) = after ≡ before

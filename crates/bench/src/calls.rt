@@ -3,7 +3,10 @@ ghost use mathlib.Core.Path.{_≡_};
 ghost use mathlib.Core.List.{List, [], _++_};
 ghost use Prim.Native.Nat.{ℕ, _<_, _≤_};
 ghost use lib.ListN.{length, drop};
-ghost use Rattle.bench.specs.Holds.{holding, Keeps, Puts};
+ghost use Rattle.definitions.specs.Calls.{Loads};
+ghost use Rattle.definitions.specs.Past.{Past, loads};
+ghost use Rattle.definitions.specs.Histories.{Follows, Verdict-kept};
+ghost use Rattle.bench.specs.Holds.{holding, Keeps};
 ghost use Rattle.expansion.specs.Fronts.{Expands};
 use crate::Bench;
 use algebra::Algebra;
@@ -31,8 +34,12 @@ use system::reading::read;
 
 impl Bench {
     /// A bench that holds nothing.
+    ///
+    /// Its contract has the main theorem: whatever calls follow, the verdict of what is held is that of what was loaded.
     pub fn new() -> Bench
-        ensures { λ r. ⌜ holding r ≡ [] ⌝ }
+        ensures holds { λ r. ⌜ holding r ≡ [] ⌝ }
+        ensures past { λ r. ⌜ Past [] (holding r) ⌝ }
+        ensures verdict { λ _. ⌜ Verdict-kept ⌝ }
     {
         Bench { bytes: [0; 8192], len: 0 }
     }
@@ -46,17 +53,20 @@ impl Bench {
 
     /// Holds the file if it is that of a system that fits the algebra.
     pub fn load<G: Algebra>(&mut self, alg: &G, file: &[u8]) -> Result<(), ReadFault>
-        ensures { λ r. ⌜ Puts (now (file .entry)) (holding (now (self .entry))) (holding (now (self .exit))) r ⌝ }
+        ensures history { λ r. ⌜ Follows (loads (G·Algebra .meaning (now (alg .entry))) (now (file .entry)) r) (holding (now (self .entry))) (holding (now (self .exit))) ⌝ }
+        ensures answer { λ r. ⌜ Loads (G·Algebra .meaning (now (alg .entry))) (now (file .entry)) (holding (now (self .entry))) (holding (now (self .exit))) r ⌝ }
+    {
+        self.load_inner(alg, file)
+    }
+
+    fn load_inner<G: Algebra>(&mut self, alg: &G, file: &[u8]) -> Result<(), ReadFault>
+        ensures { λ r. ⌜ Loads (G·Algebra .meaning (now (alg .entry))) (now (file .entry)) (holding (now (self .entry))) (holding (now (self .exit))) r ⌝ }
     {
         let _outline = read(alg, file)?;
-        let len = file.len();
-        if len > 8192 {
-            return Err(ReadFault { reason: Reason::BadLength, place: 0 });
-        }
         let mut bytes = [0; 8192];
         copy(&mut bytes, file);
         self.bytes = bytes;
-        self.len = len;
+        self.len = file.len();
         Ok(())
     }
 

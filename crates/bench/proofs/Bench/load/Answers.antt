@@ -1,10 +1,7 @@
 use native.Mathlib.Omega.{arith}
-use Rattle.bench.proofs.Tails.{zeros, tail-zero, seam-front, seam-rest}
+use Rattle.theorems.proofs.Main.{follows}
+use Rattle.bench.proofs.Held.{are-bytes}
 use Rattle.bench.proofs.Bench.load.Needs as need
 
-pub ghost-self : need.ghost-self
-ghost-self g c =
-    (omega arith, (tail-zero _ (c .copy .last .out) _ (seam-rest (c .args .file .now) _ _ (c .copy .ensures)) (zeros 8192), tt))
-
 pub returns : need.returns
-returns g c = seam-front (c .args .file .now) _ (c .copy .last .out) (c .copy .ensures)
+returns g c = record { history = follows _ _ _ (are-bytes (c .args .file .now) (λ i. let t = c .typed .file i in omega arith), c .load-inner .ensures); answer = c .load-inner .ensures }
