@@ -1,4 +1,4 @@
 //! Boolean files: reading them, and solving them.
+pub mod entries;
 pub mod reading;
-pub mod solving;
 pub mod token;

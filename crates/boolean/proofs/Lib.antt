@@ -1,0 +1,3 @@
+pub mod Parts
+pub mod Members
+pub mod Entering
