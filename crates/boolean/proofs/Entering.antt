@@ -151,9 +151,13 @@ module _ (f : List ℕ) (n : ℕ) (vs : List Variable) (e : Entries) (d : Entere
 
   signs-at : (v : Variable) → (s : KeptSign) × ((getD (e .signs) (v .rank) None ≡ Some s) × (keptSign s ≡ v .sign)) → Dec (v .rank ≡ r) →
       (s : KeptSign) × ((getD (set (e .signs) r (Some g)) (v .rank) None ≡ Some s) × (keptSign s ≡ v .sign))
-  signs-at v (s, (k, l)) (yes z) =
-      (g, (ap (λ x. getD (set (e .signs) r (Some g)) x None) z ∙ getD-set-same (e .signs) r (Some g) None lr,
-      sym (same-sign (keptSign s) (keptSign g) (ap (λ x. clashing x (keptSign g)) (sym k ∙ ap (λ x. getD (e .signs) x None) z) ∙ c)) ∙ l))
+  signs-at v (s, (k, l)) (yes z) = (
+    g,
+    (
+      ap (λ x. getD (set (e .signs) r (Some g)) x None) z ∙ getD-set-same (e .signs) r (Some g) None lr,
+      sym (same-sign (keptSign s) (keptSign g) (ap (λ x. clashing x (keptSign g)) (sym k ∙ ap (λ x. getD (e .signs) x None) z) ∙ c)) ∙ l,
+    ),
+  )
   signs-at v (s, (k, l)) (no z) = (s, (getD-set-other (e .signs) r (v .rank) (Some g) None z ∙ k, l))
 
   signs : (j : ℕ) (v : Variable) → Last vs (variable g r b) v j → (s : KeptSign) × ((getD (set (e .signs) r (Some g)) (v .rank) None ≡ Some s) × (keptSign s ≡ v .sign))

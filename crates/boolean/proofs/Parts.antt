@@ -92,10 +92,10 @@ module _ (f : List ℕ) (r : Reader (Form ℕ)) (b : Bool) (h : ℕ → Bool) wh
 -- a body behind its kind
 abbrev pub behindKind : ℕ → ℕ → ℕ → ℕ → Reader (Form ℕ)
 behindKind n d p k = getD (give (known false) ∷ give (known true) ∷
-      (λ f q. follow (take 8 f q) (λ m q. follow (repeated (readToken n d) (suc m) f q) (λ ps q. next (all (forms ps)) q))) ∷
-      (λ f q. follow (take 8 f q) (λ m q. follow (repeated (readToken n d) (suc m) f q) (λ ps q. next (any (forms ps)) q))) ∷
-      (λ f q. follow (takeFor 12 (below n) NoSuchName f q) (λ v q. next (var v) q)) ∷ [])
-      k (fail NoSuchName p)
+    (λ f q. follow (take 8 f q) (λ m q. follow (repeated (readToken n d) (suc m) f q) (λ ps q. next (all (forms ps)) q))) ∷
+    (λ f q. follow (take 8 f q) (λ m q. follow (repeated (readToken n d) (suc m) f q) (λ ps q. next (any (forms ps)) q))) ∷
+    (λ f q. follow (takeFor 12 (below n) NoSuchName f q) (λ v q. next (var v) q)) ∷ [])
+    k (fail NoSuchName p)
 
 pub opened : (n d : ℕ) (f : List ℕ) (p k q : ℕ) → (d ≡ 0 → ⊥) → next k q ≡ take 3 f p → readToken n d f p ≡ behindKind n (d - 1) p k f q
 opened n zero f p k q ne e = absurd (ne refl)

@@ -25,7 +25,11 @@ use system::header::Sign;
 fn sign_of(bit: u32) -> Sign
     ensures { λ r. ⌜ keptSign r ≡ signOf bit ⌝ }
 {
-    if bit == 0 { Sign::Least } else { Sign::Greatest }
+    if bit == 0 {
+        Sign::Least
+    } else {
+        Sign::Greatest
+    }
 }
 
 // Whether the rank has the sign, or none yet.
@@ -56,18 +60,27 @@ fn read_entry(
 {
     let mut reader = BitReader { bytes, at };
     let Some(bit) = reader.next(1) else {
-        return Err(SolveFault { reason: Reason::EndsInField, place: at });
+        return Err(SolveFault {
+            reason: Reason::EndsInField,
+            place: at,
+        });
     };
     let place = reader.at;
     let mut reader = BitReader { bytes, at: place };
     let Some(rank) = reader.next(5) else {
-        return Err(SolveFault { reason: Reason::EndsInField, place });
+        return Err(SolveFault {
+            reason: Reason::EndsInField,
+            place,
+        });
     };
     let behind = reader.at;
     let sign = sign_of(bit);
     let known = entries.signs[rank as usize];
     if !suits(known, sign) {
-        return Err(SolveFault { reason: Reason::RankOfBothSigns, place });
+        return Err(SolveFault {
+            reason: Reason::RankOfBothSigns,
+            place,
+        });
     }
     let body = read_body(bytes, behind, count, truths, BODY_DEPTH)?;
     entries.signs[rank as usize] = Some(sign);
@@ -83,7 +96,11 @@ fn read_entries(bytes: &[u8], at: usize, count: usize) -> Result<Listed, SolveFa
 {
     // Whether a body is read does not depend on the truths.
     let truths = [false; VARIABLES];
-    let mut entries = Entries { ranks: [0; 4096], bodies: [0; 4096], signs: [None; 32] };
+    let mut entries = Entries {
+        ranks: [0; 4096],
+        bodies: [0; 4096],
+        signs: [None; 32],
+    };
     let mut next = at;
     for i in 0..count {
         next = read_entry(bytes, next, i, count, &truths, &mut entries)?;
@@ -104,7 +121,11 @@ fn ends(bytes: &[u8], at: usize) -> bool
         return false;
     }
     let mut reader = BitReader { bytes, at };
-    if let Some(0) = reader.next((total - at) as u32) { true } else { false }
+    if let Some(0) = reader.next((total - at) as u32) {
+        true
+    } else {
+        false
+    }
 }
 
 /// Reads a Boolean file.
@@ -112,16 +133,28 @@ pub fn read_boolean(file: &[u8]) -> Result<Variables, SolveFault>
     ensures { λ r. ⌜ BooleanTold (now (file .entry)) r ⌝ }
 {
     if file.len() == 0 || file.len() > LONGEST_BOOLEAN {
-        return Err(SolveFault { reason: Reason::BadLength, place: 0 });
+        return Err(SolveFault {
+            reason: Reason::BadLength,
+            place: 0,
+        });
     }
     let mut reader = BitReader { bytes: file, at: 0 };
     let Some(less) = reader.next(12) else {
-        return Err(SolveFault { reason: Reason::EndsInField, place: 0 });
+        return Err(SolveFault {
+            reason: Reason::EndsInField,
+            place: 0,
+        });
     };
     let count = less as usize + 1;
     let listed = read_entries(file, reader.at, count)?;
     if !ends(file, listed.next) {
-        return Err(SolveFault { reason: Reason::NotEnded, place: listed.next });
+        return Err(SolveFault {
+            reason: Reason::NotEnded,
+            place: listed.next,
+        });
     }
-    Ok(Variables { count, entries: listed.entries })
+    Ok(Variables {
+        count,
+        entries: listed.entries,
+    })
 }

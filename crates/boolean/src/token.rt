@@ -29,42 +29,72 @@ fn read_name(bytes: &[u8], at: usize, variables: usize, truths: &[bool]) -> Resu
 {
     let mut reader = BitReader { bytes, at };
     let Some(variable) = reader.next(12) else {
-        return Err(SolveFault { reason: Reason::EndsInField, place: at });
+        return Err(SolveFault {
+            reason: Reason::EndsInField,
+            place: at,
+        });
     };
     if variable as usize >= variables {
-        return Err(SolveFault { reason: Reason::NoSuchName, place: at });
+        return Err(SolveFault {
+            reason: Reason::NoSuchName,
+            place: at,
+        });
     }
-    Ok(Said { truth: truths[variable as usize], next: reader.at })
+    Ok(Said {
+        truth: truths[variable as usize],
+        next: reader.at,
+    })
 }
 
 // Any takes one part that is true, all takes every part.
-fn joined(any: bool, truth: bool, part: bool) -> bool
+pub(crate) fn joined(any: bool, truth: bool, part: bool) -> bool
     ensures { λ r. ⌜ r ≡ cond any (truth || part) (truth && part) ⌝ }
 {
     if any { truth || part } else { truth && part }
 }
 
 /// Reads the body at the place, of depth at most `depth` over that many variables: its truth under the truths of the variables.
-pub(crate) fn read_body(bytes: &[u8], at: usize, variables: usize, truths: &[bool], depth: u8) -> Result<Said, SolveFault>
+pub(crate) fn read_body(
+    bytes: &[u8],
+    at: usize,
+    variables: usize,
+    truths: &[bool],
+    depth: u8,
+) -> Result<Said, SolveFault>
     requires small { ⌜ length (now bytes) ≤ 65536 ⌝ }
     requires room { ⌜ variables ≤ length (now truths) ⌝ }
     ensures { λ r. ⌜ toldSaid r ≡ mapped (λ p. said p (assigned (now (truths .entry)))) (readToken variables depth (now (bytes .entry)) at) ⌝ }
 {
     let mut reader = BitReader { bytes, at };
     let Some(kind) = reader.next(3) else {
-        return Err(SolveFault { reason: Reason::EndsInField, place: at });
+        return Err(SolveFault {
+            reason: Reason::EndsInField,
+            place: at,
+        });
     };
     if depth == 0 {
-        return Err(SolveFault { reason: Reason::TooDeep, place: at });
+        return Err(SolveFault {
+            reason: Reason::TooDeep,
+            place: at,
+        });
     }
     let behind = reader.at;
     match kind {
-        0 => Ok(Said { truth: false, next: behind }),
-        1 => Ok(Said { truth: true, next: behind }),
+        0 => Ok(Said {
+            truth: false,
+            next: behind,
+        }),
+        1 => Ok(Said {
+            truth: true,
+            next: behind,
+        }),
         2 | 3 => {
             let mut reader = BitReader { bytes, at: behind };
             let Some(less) = reader.next(8) else {
-                return Err(SolveFault { reason: Reason::EndsInField, place: behind });
+                return Err(SolveFault {
+                    reason: Reason::EndsInField,
+                    place: behind,
+                });
             };
             let any = kind == 3;
             let mut truth = !any;
@@ -77,6 +107,9 @@ pub(crate) fn read_body(bytes: &[u8], at: usize, variables: usize, truths: &[boo
             Ok(Said { truth, next })
         }
         4 => read_name(bytes, behind, variables, truths),
-        _ => Err(SolveFault { reason: Reason::NoSuchName, place: at }),
+        _ => Err(SolveFault {
+            reason: Reason::NoSuchName,
+            place: at,
+        }),
     }
 }
