@@ -1,4 +1,7 @@
 //! Boolean files: reading them, and solving them.
+mod blocks;
+pub mod entries;
+mod merging;
 pub mod reading;
 pub mod solving;
-pub mod token;
+mod token;

@@ -1,105 +1,181 @@
-//! Solving a Boolean file: the nested least and greatest solution, rank by rank.
-use crate::reading::VARIABLES;
-use crate::reading::Variables;
+//! Solving a Boolean file: the nested least and greatest solution, block by block.
+ghost use mathlib.Core.Path.{_≡_};
+ghost use mathlib.Core.Bool.{Bool, true, false};
+ghost use mathlib.Core.List.{List, map, _++_};
+ghost use Prim.Native.Nat.{ℕ, _<_, _≤_};
+ghost use lib.Dec.{eqb};
+ghost use lib.ListN.{length, getD, take as front, drop};
+ghost use Rattle.definitions.specs.Lists.{at as memberAt};
+ghost use Rattle.definitions.specs.Algebras.{truth as byteOf};
+ghost use Rattle.definitions.specs.Solution.{put, edge};
+ghost use Rattle.definitions.specs.Order.{truths as order};
+ghost use Rattle.definitions.specs.Nested.{solve as solution};
+ghost use Rattle.definitions.specs.Calls.{Solving};
+ghost use Rattle.system.specs.declared.header.Sign.the-variants.{Least};
+ghost use Rattle.system.specs.Files.{keptSign};
+ghost use Rattle.boolean.specs.Steps.{assigned};
+ghost use Rattle.boolean.specs.Files.{Described};
+ghost use Rattle.boolean.specs.Ranked.{variablesOf, variableBody, inBlock, blockAt, blocksOf, movesTo, Visited, Swept};
+use crate::blocks::Blocks;
+use crate::entries::VARIABLES;
+use crate::entries::Variables;
+use crate::merging::blocks_of;
 use crate::reading::read_boolean;
 use crate::token::BODY_DEPTH;
-use crate::token::body_truth;
+use crate::token::joined;
+use crate::token::read_body;
 use faults::Reason;
 use faults::SolveFault;
 use system::header::Sign;
-use system::header::SignPartialEq;
 
-/// Neighbouring ranks of one sign, which are solved together.
-#[derive(Clone, Copy)]
-pub struct Block {
-    pub sign: Sign,
-    pub first: u8,
-    pub last: u8,
-}
-
-/// The blocks of a Boolean system, outermost first.
-#[derive(Clone, Copy)]
-pub struct Blocks {
-    pub count: u8,
-    pub blocks: [Block; 32],
-}
-
-// Ranks that no variable has cost nothing.
-fn blocks_of(signs: &[Option<Sign>; 32]) -> Blocks {
-    let mut all = Blocks { count: 0, blocks: [Block { sign: Sign::Least, first: 0, last: 0 }; 32] };
-    for rank in 0..32u8 {
-        if let Some(sign) = signs[rank as usize] {
-            let n = all.count as usize;
-            if n > 0 && n <= 32 && all.blocks[n - 1].sign == sign {
-                all.blocks[n - 1].last = rank;
-            } else if n < 32 {
-                all.blocks[n] = Block { sign, first: rank, last: rank };
-                all.count += 1;
-            }
-        }
+// The truth that the variables of a block move to: they begin with the other.
+fn moves_to(sign: Sign) -> bool
+    ensures { λ r. ⌜ r ≡ movesTo sign ⌝ }
+{
+    match sign {
+        Sign::Least => true,
+        Sign::Greatest => false,
     }
-    all
 }
 
-fn is_in(block: Block, rank: u8) -> bool {
-    block.first <= rank && rank <= block.last
+// Whether the variable is in the block.
+fn belongs(variables: &Variables, blocks: &Blocks, k: u8, v: usize) -> bool
+    requires small { ⌜ ((i : ℕ) → getD (now variables .entries .ranks) i 0 < 32) ⌝ }
+    requires few { ⌜ v < 4096 ⌝ }
+    ensures { λ r. ⌜ r ≡ eqb (getD (now (blocks .entry) .ranks) (getD (now (variables .entry) .entries .ranks) v 0) 0) k ⌝ }
+{
+    blocks.ranks[variables.entries.ranks[v] as usize] == k
 }
 
 // The truths of the block's variables at the start of its rounds.
-fn begin(variables: &Variables, block: Block, truths: &mut [bool; VARIABLES]) {
-    let truth = match block.sign {
-        Sign::Least => false,
-        Sign::Greatest => true,
-    };
+fn begin(file: &[u8], variables: &Variables, blocks: &Blocks, k: u8, truths: &mut [bool; VARIABLES])
+    requires described { ⌜ Described (now file) (variablesOf (now file)) (now variables) ⌝ }
+    requires few { ⌜ k < 32 ⌝ }
+    ensures { λ _. ⌜ assigned (now (truths .exit)) ≡ put (blockAt (variablesOf (now (file .entry))) (now (blocks .entry) .ranks) k (getD (now (blocks .entry) .signs) k Least)) (λ _. edge false true (keptSign (getD (now (blocks .entry) .signs) k Least))) (assigned (now (truths .entry))) ⌝ }
+{
+    let start = !moves_to(blocks.signs[k as usize]);
     for v in 0..variables.count {
-        if is_in(block, variables.entries.ranks[v]) {
-            truths[v] = truth;
+        if belongs(variables, blocks, k, v) {
+            truths[v] = start;
         }
     }
 }
 
-// Gives each variable of the block the truth of its body, the last variable first; tells whether one changed.
-fn sweep(file: &[u8], variables: &Variables, block: Block, truths: &mut [bool; VARIABLES]) -> bool {
+// Moves the truth of the variable, if it is in the block and its body says so; tells whether it moved.
+fn visit(
+    file: &[u8],
+    variables: &Variables,
+    blocks: &Blocks,
+    k: u8,
+    v: usize,
+    to: bool,
+    truths: &mut [bool; VARIABLES],
+) -> bool
+    requires described { ⌜ Described (now file) (variablesOf (now file)) (now variables) ⌝ }
+    requires small { ⌜ length (now file) ≤ 65536 ⌝ }
+    requires few { ⌜ v < now variables .count ⌝ }
+    ensures { λ r. ⌜ Visited to (variableBody (variablesOf (now (file .entry)))) (λ j. inBlock (memberAt (variablesOf (now (file .entry))) j) (now (blocks .entry) .ranks) k) v (now (truths .entry)) (now (truths .exit)) r ⌝ }
+{
+    // A truth that has moved stays.
+    if truths[v] == to || !belongs(variables, blocks, k, v) {
+        return false;
+    }
+    let Ok(said) = read_body(
+        file,
+        variables.entries.bodies[v],
+        variables.count,
+        truths,
+        BODY_DEPTH,
+    ) else {
+        return false;
+    };
+    if said.truth != to {
+        return false;
+    }
+    truths[v] = to;
+    true
+}
+
+// Visits the variables of the block, the last one first; tells whether one moved.
+fn sweep(
+    file: &[u8],
+    variables: &Variables,
+    blocks: &Blocks,
+    k: u8,
+    truths: &mut [bool; VARIABLES],
+) -> bool
+    requires described { ⌜ Described (now file) (variablesOf (now file)) (now variables) ⌝ }
+    requires small { ⌜ length (now file) ≤ 65536 ⌝ }
+    requires few { ⌜ k < 32 ⌝ }
+    ensures { λ r. ⌜ Swept (getD (now (blocks .entry) .signs) k Least) (variableBody (variablesOf (now (file .entry)))) (λ j. inBlock (memberAt (variablesOf (now (file .entry))) j) (now (blocks .entry) .ranks) k) 0 (assigned (now (truths .entry))) (assigned (now (truths .exit))) r ⌝ }
+{
+    let to = moves_to(blocks.signs[k as usize]);
     let mut changed = false;
-    for v in (0..variables.count).rev() {
-        if is_in(block, variables.entries.ranks[v]) {
-            if let Some(said) = body_truth(file, variables.entries.bodies[v], &truths[0..variables.count], BODY_DEPTH) {
-                if said.truth != truths[v] {
-                    truths[v] = said.truth;
-                    changed = true;
-                }
-            }
-        }
+    for i in 0..variables.count {
+        let moved = visit(
+            file,
+            variables,
+            blocks,
+            k,
+            variables.count - 1 - i,
+            to,
+            truths,
+        );
+        changed = joined(true, changed, moved);
     }
     changed
 }
 
-// Solves the blocks from the one numbered `from` on, the truths of the earlier ones being held.
-fn solve_from(file: &[u8], variables: &Variables, blocks: &Blocks, from: u8, truths: &mut [bool; VARIABLES]) {
-    if from >= blocks.count || from >= 32 {
+// Solves the blocks below k, the truths of the others being held.
+fn solve_below(
+    file: &[u8],
+    variables: &Variables,
+    blocks: &Blocks,
+    k: u8,
+    truths: &mut [bool; VARIABLES],
+)
+    requires described { ⌜ Described (now file) (variablesOf (now file)) (now variables) ⌝ }
+    requires small { ⌜ length (now file) ≤ 65536 ⌝ }
+    requires few { ⌜ k ≤ 32 ⌝ }
+    ensures { λ _. ⌜ assigned (now (truths .exit)) ≡ solution order (variableBody (variablesOf (now (file .entry)))) (blocksOf (variablesOf (now (file .entry))) (now (blocks .entry)) k) (assigned (now (truths .entry))) ⌝ }
+{
+    if k == 0 {
         return;
     }
-    let block = blocks.blocks[from as usize];
-    begin(variables, block, truths);
-    // Each round but the last changes the truth of one of at most 4,096 variables, and each but once.
-    for _round in 0..VARIABLES + 1 {
-        solve_from(file, variables, blocks, from + 1, truths);
-        if !sweep(file, variables, block, truths) {
+    begin(file, variables, blocks, k - 1, truths);
+    // Each round but the last moves the truth of a variable of the block.
+    loop {
+        solve_below(file, variables, blocks, k - 1, truths);
+        if !sweep(file, variables, blocks, k - 1, truths) {
             return;
         }
     }
 }
 
-/// Writes the truth of each variable, a byte 0 or 1, to the front of `truths`, and tells how many there are.
-pub fn solve(file: &[u8], truths: &mut [u8]) -> Result<usize, SolveFault> {
-    let variables = read_boolean(file)?;
-    if truths.len() < variables.count {
-        return Err(SolveFault { reason: Reason::TooFewTruths, place: 0 });
-    }
-    let mut solution = [false; VARIABLES];
-    solve_from(file, &variables, &blocks_of(&variables.entries.signs), 0, &mut solution);
-    for v in 0..variables.count {
+fn deliver(solution: &[bool; VARIABLES], count: usize, truths: &mut [u8])
+    requires few { ⌜ count ≤ 4096 ⌝ }
+    requires room { ⌜ count ≤ length (now truths) ⌝ }
+    ensures { λ _. ⌜ now (truths .exit) ≡ map byteOf (front count (now (solution .entry))) ++ drop count (now (truths .entry)) ⌝ }
+{
+    for v in 0..count {
         truths[v] = solution[v] as u8;
     }
+}
+
+/// Writes the truth of each variable, a byte 0 or 1, to the front of `truths`, and tells how many there are.
+pub fn solve(file: &[u8], truths: &mut [u8]) -> Result<usize, SolveFault>
+    ensures { λ r. ⌜ Solving (now (file .entry)) (now (truths .entry)) (now (truths .exit)) r ⌝ }
+{
+    let variables = read_boolean(file)?;
+    if truths.len() < variables.count {
+        return Err(SolveFault {
+            reason: Reason::TooFewTruths,
+            place: 0,
+        });
+    }
+    let blocks = blocks_of(&variables.entries.signs);
+    let mut solution = [false; VARIABLES];
+    solve_below(file, &variables, &blocks, blocks.count, &mut solution);
+    deliver(&solution, variables.count, truths);
     Ok(variables.count)
 }

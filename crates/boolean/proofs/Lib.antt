@@ -1,0 +1,10 @@
+pub mod Parts
+pub mod Members
+pub mod Entering
+pub mod Monotone
+pub mod Rounds
+pub mod Weights
+pub mod Merges
+pub mod Sweeping
+pub mod Below
+pub mod Answering
