@@ -12,15 +12,15 @@ use lib.Seq.{getD-set-same, getD-set-other}
 use borrow.Author.Tests.{eqb-true, ne-eqb}
 use Rattle.std.specs.declared.option.Option.{Option}
 use Rattle.std.specs.declared.option.Option.the-variants.{None, Some}
-use Rattle.definitions.specs.Lists.{at}
+use Rattle.definitions.specs.Lists.{at, upTo}
 use Rattle.definitions.specs.Solution.{Sign, Block, edge, put}
-use Rattle.definitions.specs.Order.{Order, Le, Below, Monotone}
+use Rattle.definitions.specs.Order.{Order, Le, dual, Below, Monotone}
 use Rattle.definitions.specs.Order as order
 use Rattle.faults.specs.declared.Reason.{Reason}
 use Rattle.definitions.specs.Reading.{next, stop}
 use Rattle.definitions.specs.Boolean.{Variable, said, bodyAt, readToken}
 use Rattle.fixpoint.specs.Laws.{inBlocks}
-use Rattle.fixpoint.proofs.Rounds.{cond-true, cond-false}
+use Rattle.fixpoint.proofs.Rounds.{total, antisym, cond-true, cond-false}
 use Rattle.fixpoint.proofs.Signs.{mono-toward}
 use Rattle.system.specs.declared.header.Sign.{Sign as KeptSign}
 use Rattle.system.specs.declared.header.Sign.the-variants.{Least, Greatest}
@@ -28,7 +28,8 @@ use Rattle.system.specs.Files.{keptSign}
 use Rattle.boolean.specs.declared.entries.Variables.{Variables}
 use Rattle.boolean.specs.Steps.{assigned, mapped}
 use Rattle.boolean.specs.Files.{Described}
-use Rattle.boolean.specs.Ranked.{variableBody, inBlock, blockAt, blocksBelow, moving, movesTo, Visited, Swept}
+use Rattle.boolean.specs.Ranked.{variableBody, inBlock, blockAt, blocksBelow, moving, movesTo, Visited, Swept, members}
+use Rattle.boolean.proofs.Weights.{from-mem, lighter}
 use Rattle.boolean.proofs.Merges.{in-below}
 
 pub moves-le : (s : KeptSign) (a b : Bool) → (a ≡ movesTo s → b ≡ movesTo s) → Le (moving s) a b
@@ -231,3 +232,41 @@ not-not-beq true true e = refl
 not-not-beq true false e = absurd (true≢false e)
 not-not-beq false true e = absurd (true≢false e)
 not-not-beq false false e = refl
+
+-- a further sweep
+module _ (s : KeptSign) (body : (ℕ → Bool) → ℕ → Bool) (inside : ℕ → Bool) (n : ℕ) (h f g : ℕ → Bool) (c : Bool) (w : Swept s body inside n h f c) where
+  both-move : (x : ℕ) → Below (moving s) f g → Le (moving s) (h x) (g x)
+  both-move x p = moves-le s (h x) (g x) (λ e. le-moves s (f x) (g x) (p x) (le-moves s (h x) (f x) (w .moves x) e))
+
+  pub swept-again : Swept s body inside 0 f g true → Swept s body inside n h g true
+  swept-again v =
+      let z = v .changes refl in
+      record {
+        outside = λ x p. v .outside x p ∙ w .outside x p;
+        moves = λ x. both-move x (v .moves);
+        sound = λ u p q. v .sound u (w .sound u p q) q;
+        rests = λ e. absurd (true≢false e);
+        changes = λ _. (z .0, (z .1 .0, λ e. z .1 .1 (between s (h (z .0)) (f (z .0)) (g (z .0)) (w .moves (z .0)) (v .moves (z .0)) e)));
+      }
+    where
+      between : (s : KeptSign) (a b d : Bool) → Le (moving s) a b → Le (moving s) b d → a ≡ d → b ≡ d
+      between s a b d p q e = antisym (moving s) q (subst (λ y. Le (moving s) y b) e p)
+
+  pub swept-done : Swept s body inside 0 f g false → Swept s body inside 0 h g c
+  swept-done v =
+      let z = v .rests refl in
+      subst (λ (u : ℕ → Bool). Swept s body inside 0 h u c) (sym (z .0))
+      (record {
+        outside = w .outside;
+        moves = w .moves;
+        sound = w .sound;
+        rests = λ e. (w .rests e .0, subst (λ (u : ℕ → Bool). (x : ℕ) → 0 ≤ x → inside x ≡ true → Le (moving s) (body u x) (u x)) (w .rests e .0) (z .1));
+        changes = w .changes;
+      })
+
+pub swept-less : (s : KeptSign) (vs : List Variable) (bs : List ℕ) (k : ℕ) (body : (ℕ → Bool) → ℕ → Bool) (f g : ℕ → Bool) →
+    Swept s body (λ j. inBlock (at vs j) bs k) 0 f g true → total (dual (moving s)) (members vs bs k) g < total (dual (moving s)) (members vs bs k) f
+swept-less s vs bs k body f g w =
+    let c = w .changes refl in
+    let l : c .0 < length vs = in-below vs bs k (c .0) (c .1 .0) in
+    lighter (moving s) (λ j. inBlock (at vs j) bs k) (upTo (length vs)) f f g (λ x q. refl) (w .moves) (c .0) (c .1 .0) (from-mem 0 (length vs) (c .0) (omega arith) (omega arith)) (c .1 .1)

@@ -126,6 +126,26 @@ fn sweep(
     changed
 }
 
+// Sweeps until nothing moves, the other blocks being held; tells whether a truth moved.
+fn settle_block(
+    file: &[u8],
+    variables: &Variables,
+    blocks: &Blocks,
+    k: u8,
+    truths: &mut [bool; VARIABLES],
+) -> bool
+    requires described { ⌜ Described (now file) (variablesOf (now file)) (now variables) ⌝ }
+    requires small { ⌜ length (now file) ≤ 65536 ⌝ }
+    requires few { ⌜ k < 32 ⌝ }
+    ensures { λ r. ⌜ Swept (getD (now (blocks .entry) .signs) k Least) (variableBody (variablesOf (now (file .entry)))) (λ j. inBlock (memberAt (variablesOf (now (file .entry))) j) (now (blocks .entry) .ranks) k) 0 (assigned (now (truths .entry))) (assigned (now (truths .exit))) r ⌝ }
+{
+    let mut changed = false;
+    while sweep(file, variables, blocks, k, truths) {
+        changed = true;
+    }
+    changed
+}
+
 // Solves the blocks below k, the truths of the others being held.
 fn solve_below(
     file: &[u8],
@@ -146,7 +166,7 @@ fn solve_below(
     // Each round but the last moves the truth of a variable of the block.
     loop {
         solve_below(file, variables, blocks, k - 1, truths);
-        if !sweep(file, variables, blocks, k - 1, truths) {
+        if !settle_block(file, variables, blocks, k - 1, truths) {
             return;
         }
     }
