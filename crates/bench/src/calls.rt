@@ -41,7 +41,10 @@ impl Bench {
         ensures past { λ r. ⌜ Past [] (holding r) ⌝ }
         ensures verdict { λ _. ⌜ Verdict-kept ⌝ }
     {
-        Bench { bytes: [0; 8192], len: 0 }
+        Bench {
+            bytes: [0; 8192],
+            len: 0,
+        }
     }
 
     /// The file that is held; empty where nothing is.
@@ -111,7 +114,12 @@ impl Bench {
     }
 
     /// Writes the Boolean file of the held system to the front of `out`; `work` is memory for the instances.
-    pub fn expand<G: Algebra>(&self, alg: &G, work: &mut [Instance], out: &mut [u8]) -> Result<Expansion, ExpandFault>
+    pub fn expand<G: Algebra>(
+        &self,
+        alg: &G,
+        work: &mut [Instance],
+        out: &mut [u8],
+    ) -> Result<Expansion, ExpandFault>
         ensures { λ r. ⌜ Expands (now (out .entry)) (now (out .exit)) r ⌝ }
     {
         if self.len == 0 {
@@ -136,7 +144,11 @@ fn run_turn<G: Algebra>(bench: &mut Bench, alg: &G, letter: char, round: usize) 
 {
     match bench.run_letter(alg, letter) {
         Ok(()) => Ok(()),
-        Err(fault) => Err(Halt { fault, letter: letter as u8, round }),
+        Err(fault) => Err(Halt {
+            fault,
+            letter: letter as u8,
+            round,
+        }),
     }
 }
 

@@ -56,7 +56,10 @@ fn split_input(input: &[u8]) -> (&[u8], &[u8]) {
 // Expands the held system and solves it.
 fn print_verdict(rt: &LibcRuntime, bench: &Bench, table: &Table) -> io::Result<()> {
     let heap = rt.alloc();
-    let mut work = vec![in heap; Instance { equation: 0, values: [0; 15] }; 4096]?;
+    let mut work = vec![in heap; Instance {
+        equation: 0,
+        values: [0; 15]
+    }; 4096]?;
     let mut file = vec![in heap; 0u8; 65535]?;
     let mut truths = vec![in heap; 0u8; 4096]?;
     let expansion = match bench.expand(table, work.as_mut_slice(), file.as_mut_slice()) {
