@@ -1,20 +1,21 @@
 //! Passes: each reads a system file and writes the file of a system with the same verdict.
-ghost use Rattle.passes.specs.Fronts.{Fronts};
-
+mod clauses;
 pub mod constants;
+mod editing;
+mod fields;
 pub mod folding;
+mod heading;
+mod places;
 mod plan;
 pub mod redundant;
 mod rewrite;
-mod terms;
 pub mod unreachable_equations;
 
 use algebra::Algebra;
 use faults::PassFault;
 
-/// A pass: over each algebra it turns a system into another.
+/// A pass means one system for each system and algebra.
 pub trait Pass {
     /// Writes the file of the meant system to the front of `out`, and tells its length.
-    fn apply<G: Algebra>(&self, alg: &G, file: &[u8], out: &mut [u8]) -> Result<usize, PassFault>
-        ensures { λ r. ⌜ Fronts (now (out .entry)) (now (out .exit)) r ⌝ };
+    fn apply<G: Algebra>(&self, alg: &G, file: &[u8], out: &mut [u8]) -> Result<usize, PassFault>;
 }

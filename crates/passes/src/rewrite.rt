@@ -1,192 +1,110 @@
 //! Writing the file of a system as a plan changes it.
 ghost use mathlib.Core.Path.{_≡_};
 ghost use mathlib.Core.List.{_++_};
-ghost use Prim.Native.Nat.{_≤_};
+ghost use Prim.Native.Nat.{ℕ, _<_, _≤_};
 ghost use lib.ListN.{length, drop};
-ghost use Rattle.passes.specs.Fronts.{Fronts};
+ghost use Rattle.definitions.specs.Systems.{System};
+ghost use Rattle.definitions.specs.Written.{systemBits, written as fileOf};
+ghost use Rattle.definitions.specs.Rules.{fittedIn};
+ghost use Rattle.definitions.specs.Calls.{Applies};
+ghost use Rattle.passes.specs.Plans.{planned};
+ghost use Rattle.passes.specs.Bodies.{Outlines, HeadersWritten, BodyWritten, BodiesWritten, SystemWritten, Drafts};
+use crate::clauses::count_clauses;
+use crate::clauses::write_clauses;
+use crate::editing::Edit;
+use crate::editing::write_term;
+use crate::fields::put;
+use crate::fields::write_value;
+use crate::heading::write_header;
+use crate::heading::write_start;
 use crate::plan::Plan;
-use crate::plan::number_among;
 use crate::plan::renumbered;
-use crate::terms::Edit;
-use crate::terms::write_term;
-use crate::terms::write_value;
 use algebra::Algebra;
 use bits::BitWriter;
-use bits::Full;
 use faults::PassFault;
 use faults::Reason;
 use system::DEPTH;
 use system::LONGEST;
-use system::header::Header;
-use system::header::Quantifier;
-use system::header::Sign;
 use system::reading::Outline;
-use system::value::Environment;
-use system::value::known_value;
 use system::view::View;
-use system::walk::end_of_clause;
 use system::walk::open_body;
-use system::walk::open_clause;
-use system::walk::open_occurrence;
-
-// A header without the parameters that do not stay, and without quantified variables if it becomes bare.
-fn write_header(writer: &mut BitWriter, header: Header, stays: &[bool; 15], bare: bool) -> Result<(), Full> {
-    let sign = match header.sign {
-        Sign::Least => 0,
-        Sign::Greatest => 1,
-    };
-    writer.put(sign, 1)?;
-    writer.put(number_among(stays, header.count as usize) as u32, 4)?;
-    for k in 0..header.count {
-        if stays[k as usize] {
-            writer.put(header.sorts[k as usize] as u32, 4)?;
-        }
-    }
-    if bare {
-        return writer.put(0, 2);
-    }
-    writer.put(header.number as u32, 2)?;
-    for k in 0..header.number {
-        let quantified = header.quantified[k as usize];
-        let quantifier = match quantified.quantifier {
-            Quantifier::Exists => 0,
-            Quantifier::ForAll => 1,
-        };
-        writer.put(quantifier, 1)?;
-        writer.put(quantified.sort as u32, 4)?;
-    }
-    Ok(())
-}
-
-// An occurrence without the arguments of parameters that do not stay, and the place behind it.
-fn write_occurrence<G: Algebra>(alg: &G, outline: &Outline, plan: &Plan, edit: &Edit, file: &[u8], at: usize, writer: &mut BitWriter) -> Result<usize, Full> {
-    let Some(occurrence) = open_occurrence(alg, outline, file, at) else {
-        return Err(Full {});
-    };
-    writer.put(renumbered(plan, occurrence.target) as u32, 5)?;
-    let stays = plan.equations[occurrence.target as usize].stays;
-    for k in 0..occurrence.count {
-        if stays[k as usize] {
-            write_term(alg, edit, View { bytes: file, at: occurrence.arguments[k as usize] }, writer, DEPTH)?;
-        }
-    }
-    Ok(occurrence.next)
-}
-
-// A clause, and the place behind it.
-fn write_clause<G: Algebra>(alg: &G, outline: &Outline, plan: &Plan, edit: &Edit, file: &[u8], at: usize, writer: &mut BitWriter) -> Result<usize, Full> {
-    let Some(clause) = open_clause(alg, file, at) else {
-        return Err(Full {});
-    };
-    write_term(alg, edit, View { bytes: file, at: clause.guard }, writer, DEPTH)?;
-    writer.put(clause.count as u32 - 1, 3)?;
-    let mut next = clause.next;
-    for _k in 0..clause.count {
-        next = write_occurrence(alg, outline, plan, edit, file, next, writer)?;
-    }
-    Ok(next)
-}
-
-// Whether the clause at the place goes: its guard is known false though nothing is known.
-fn clause_goes<G: Algebra>(alg: &G, edit: &Edit, file: &[u8], at: usize) -> bool {
-    if !edit.fold {
-        return false;
-    }
-    match known_value(alg, &Environment::unknown(), View { bytes: file, at }, DEPTH) {
-        Some(value) => value == 0,
-        None => false,
-    }
-}
-
-// How many of the clauses stay.
-fn count_clauses<G: Algebra>(alg: &G, outline: &Outline, edit: &Edit, file: &[u8], at: usize, count: u8) -> Option<u8> {
-    let mut next = at;
-    let mut stay = 0u8;
-    for _k in 0..count {
-        if !clause_goes(alg, edit, file, next) && stay < 255 {
-            stay += 1;
-        }
-        next = end_of_clause(alg, outline, file, next)?;
-    }
-    Some(stay)
-}
-
-// The clauses that stay.
-fn write_clauses<G: Algebra>(alg: &G, outline: &Outline, plan: &Plan, edit: &Edit, file: &[u8], at: usize, count: u8, writer: &mut BitWriter) -> Result<(), Full> {
-    let mut next = at;
-    for _k in 0..count {
-        if clause_goes(alg, edit, file, next) {
-            let Some(end) = end_of_clause(alg, outline, file, next) else {
-                return Err(Full {});
-            };
-            next = end;
-        } else {
-            next = write_clause(alg, outline, plan, edit, file, next, writer)?;
-        }
-    }
-    Ok(())
-}
 
 // The body of the equation numbered i.
-fn write_body<G: Algebra>(alg: &G, outline: &Outline, plan: &Plan, file: &[u8], i: usize, writer: &mut BitWriter) -> Result<(), Full> {
-    if i >= 31 {
-        return Err(Full {});
-    }
+fn write_body<G: Algebra>(alg: &G, outline: &Outline, plan: &Plan, file: &[u8], i: usize, bytes: &mut [u8], at: usize) -> usize
+    requires short { ⌜ length (now bytes) ≤ 65536 ⌝ }
+    requires inside { ⌜ i < 31 ⌝ }
+    ensures { λ r. ⌜ BodyWritten (meaning (now (alg .entry))) (now (file .entry)) (now (outline .entry)) (now (plan .entry)) i (now (bytes .entry)) at (now (bytes .exit)) r ⌝ }
+{
     let change = plan.equations[i];
     if change.bare {
-        write_value(writer, 0, 0)?;
-        return writer.put(0, 4);
+        let at = write_value(bytes, at, 0, 0);
+        return put(bytes, at, 0, 4);
     }
     let Some(body) = open_body(alg, file, outline.bodies[i]) else {
-        return Err(Full {});
+        return at;
     };
-    let edit = Edit { fold: plan.fold, change, sorts: outline.headers[i].sorts };
-    write_term(alg, &edit, View { bytes: file, at: body.h }, writer, DEPTH)?;
-    let Some(stay) = count_clauses(alg, outline, &edit, file, body.next, body.count) else {
-        return Err(Full {});
-    };
-    writer.put(stay as u32, 4)?;
-    write_clauses(alg, outline, plan, &edit, file, body.next, body.count, writer)
+    let header = outline.headers[i];
+    let sorts = header.sorts;
+    let edit = Edit { fold: plan.fold, change, sorts };
+    let at = write_term(alg, &edit, View { bytes: file, at: body.h }, DEPTH, bytes, at);
+    let at = put(bytes, at, count_clauses(alg, outline, &edit, file, body.count, body.next) as u32, 4);
+    write_clauses(alg, outline, plan, &edit, file, body.count, body.next, bytes, at)
 }
 
-// The start, without the values of parameters that do not stay.
-fn write_start(outline: &Outline, plan: &Plan, writer: &mut BitWriter) -> Result<(), Full> {
-    let start = outline.start;
-    writer.put(renumbered(plan, start.equation) as u32, 5)?;
-    let stays = plan.equations[start.equation as usize].stays;
-    for k in 0..outline.headers[start.equation as usize].count {
-        if stays[k as usize] {
-            writer.put(start.values[k as usize] as u32, 8)?;
-        }
-    }
-    Ok(())
-}
-
-// The file of the system as the plan changes it.
-fn write_system<G: Algebra>(alg: &G, outline: &Outline, plan: &Plan, file: &[u8], writer: &mut BitWriter) -> Result<(), Full> {
-    writer.put(renumbered(plan, outline.count) as u32, 5)?;
+// The headers of the equations that stay.
+fn write_headers(outline: &Outline, plan: &Plan, bytes: &mut [u8], at: usize) -> usize
+    requires { ⌜ length (now bytes) ≤ 65536 ⌝ }
+    ensures { λ r. ⌜ HeadersWritten (now (outline .entry)) (now (plan .entry)) (now (bytes .entry)) at (now (bytes .exit)) r ⌝ }
+{
+    let mut place = at;
     for i in 0..outline.count as usize {
         let change = plan.equations[i];
         if change.kept {
-            write_header(writer, outline.headers[i], &change.stays, change.bare)?;
+            place = write_header(outline.headers[i], &change, bytes, place);
         }
     }
+    place
+}
+
+// The bodies of the equations that stay.
+fn write_bodies<G: Algebra>(alg: &G, outline: &Outline, plan: &Plan, file: &[u8], bytes: &mut [u8], at: usize) -> usize
+    requires { ⌜ length (now bytes) ≤ 65536 ⌝ }
+    ensures { λ r. ⌜ BodiesWritten (meaning (now (alg .entry))) (now (file .entry)) (now (outline .entry)) (now (plan .entry)) (now (bytes .entry)) at (now (bytes .exit)) r ⌝ }
+{
+    let mut place = at;
     for i in 0..outline.count as usize {
         if plan.equations[i].kept {
-            write_body(alg, outline, plan, file, i, writer)?;
+            place = write_body(alg, outline, plan, file, i, bytes, place);
         }
     }
-    write_start(outline, plan, writer)
+    place
 }
 
-// The file of the changed system in a buffer of its own, and its length.
-fn draft<G: Algebra>(alg: &G, outline: &Outline, plan: &Plan, file: &[u8], buffer: &mut [u8]) -> Result<usize, Full> {
-    let mut writer = BitWriter { bytes: buffer, at: 0 };
-    write_system(alg, outline, plan, file, &mut writer)?;
-    Ok(writer.close())
+// The bits of the system as the plan changes it.
+fn write_system<G: Algebra>(alg: &G, outline: &Outline, plan: &Plan, file: &[u8], bytes: &mut [u8]) -> usize
+    requires { ⌜ length (now bytes) ≤ 65536 ⌝ }
+    ensures { λ r. ⌜ SystemWritten (meaning (now (alg .entry))) (now (file .entry)) (now (outline .entry)) (now (plan .entry)) (now (bytes .entry)) (now (bytes .exit)) r ⌝ }
+{
+    let at = put(bytes, 0, renumbered(plan, outline.count) as u32, 5);
+    let at = write_headers(outline, plan, bytes, at);
+    let at = write_bodies(alg, outline, plan, file, bytes, at);
+    write_start(outline, plan, bytes, at)
 }
 
-// Copies `part` to the front of `out`.
+// The file of the changed system in a buffer of its own, and its length; none where it does not fit.
+fn draft<G: Algebra>(alg: &G, outline: &Outline, plan: &Plan, file: &[u8], buffer: &mut [u8]) -> Option<usize>
+    requires { ⌜ length (now buffer) ≤ 65536 ⌝ }
+    ensures { λ r. ⌜ ((s : System) → Outlines (meaning (now (alg .entry))) (now (file .entry)) (now (outline .entry)) s → Drafts (systemBits (planned (now (plan .entry)) (meaning (now (alg .entry))) s)) (now (buffer .entry)) (now (buffer .exit)) r) ⌝ }
+{
+    let at = write_system(alg, outline, plan, file, buffer);
+    if at > 8 * buffer.len() {
+        return None;
+    }
+    let mut writer = BitWriter { bytes: buffer, at };
+    Some(writer.close())
+}
+
+// Copies a part to the front of `out`.
 fn copy(out: &mut [u8], part: &[u8])
     requires { ⌜ length (now part) ≤ length (now out) ⌝ }
     ensures { λ _. ⌜ now (out .exit) ≡ now (part .entry) ++ drop (length (now (part .entry))) (now (out .entry)) ⌝ }
@@ -195,24 +113,24 @@ fn copy(out: &mut [u8], part: &[u8])
     out[0..n].copy_from_slice(part);
 }
 
-// Copies `part` to the front of `out`, if there is room.
-fn deliver(out: &mut [u8], part: &[u8]) -> Result<usize, PassFault>
-    ensures { λ r. ⌜ Fronts (now (out .entry)) (now (out .exit)) r ⌝ }
+// Delivers a file to the front of `out` if it fits.
+fn deliver(out: &mut [u8], written: &[u8]) -> Result<usize, PassFault>
+    ensures { λ r. ⌜ Applies (fittedIn (length (now (out .entry))) (now (written .entry))) (now (out .entry)) (now (out .exit)) r ⌝ }
 {
-    let n = part.len();
-    if n > out.len() || n > LONGEST {
+    let len = written.len();
+    if len > out.len() || len > LONGEST {
         return Err(PassFault::Declined(Reason::ResultTooLong));
     }
-    copy(out, part);
-    Ok(n)
+    copy(out, written);
+    Ok(len)
 }
 
 /// Writes the file of the system as the plan changes it to the front of `out`, and tells its length.
 pub(crate) fn write_planned<G: Algebra>(alg: &G, outline: &Outline, plan: &Plan, file: &[u8], out: &mut [u8]) -> Result<usize, PassFault>
-    ensures { λ r. ⌜ Fronts (now (out .entry)) (now (out .exit)) r ⌝ }
+    ensures { λ r. ⌜ ((s : System) → Outlines (meaning (now (alg .entry))) (now (file .entry)) (now (outline .entry)) s → Applies (fittedIn (length (now (out .entry))) (fileOf (planned (now (plan .entry)) (meaning (now (alg .entry))) s))) (now (out .entry)) (now (out .exit)) r) ⌝ }
 {
     let mut buffer = [0u8; LONGEST];
-    let Ok(len) = draft(alg, outline, plan, file, &mut buffer) else {
+    let Some(len) = draft(alg, outline, plan, file, &mut buffer) else {
         return Err(PassFault::Declined(Reason::ResultTooLong));
     };
     if len > LONGEST {

@@ -1,0 +1,17 @@
+pub mod Masks
+pub mod Edits
+pub mod Made
+pub mod PlannedR
+pub mod PlannedU
+pub mod PlannedF
+pub mod PlannedC
+pub mod Writing
+pub mod Narrowing
+pub mod FieldWriting
+pub mod KindWriting
+pub mod Sorts
+pub mod HeadWriting
+pub mod ClauseWriting
+pub mod SystemWriting
+pub mod Drafting
+pub mod TermWriting
