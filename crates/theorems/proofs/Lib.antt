@@ -54,4 +54,7 @@ pub mod TruthsC
 pub mod UniqueFiles
 pub mod Weights
 pub mod Whole
+<<<<<<< ours
 pub mod Main
+=======
+>>>>>>> theirs
