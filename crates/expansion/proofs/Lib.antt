@@ -1,0 +1,9 @@
+pub mod Lines
+pub mod Orders
+pub mod Drafting
+pub mod Coming
+pub mod Writing
+pub mod Turns
+pub mod Apts
+pub mod Holding
+pub mod Levels
