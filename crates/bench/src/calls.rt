@@ -3,8 +3,8 @@ ghost use mathlib.Core.Path.{_≡_};
 ghost use mathlib.Core.List.{List, [], _++_};
 ghost use Prim.Native.Nat.{ℕ, _<_, _≤_};
 ghost use lib.ListN.{length, drop};
-ghost use Rattle.definitions.specs.Calls.{Loads};
-ghost use Rattle.definitions.specs.Past.{Past, loads};
+ghost use Rattle.definitions.specs.Calls.{Loads, Answers, runOn};
+ghost use Rattle.definitions.specs.Past.{Past, loads, runs};
 ghost use Rattle.definitions.specs.Histories.{Follows, Verdict-kept};
 ghost use Rattle.bench.specs.Holds.{holding, Keeps};
 ghost use Rattle.expansion.specs.Fronts.{Expands};
@@ -20,7 +20,7 @@ use faults::ReadFault;
 use faults::Reason;
 use faults::SettleFault;
 use faults::SettleFaultFromHalt;
-use passes::Pass;
+use pass::Pass;
 use passes::constants::Constants;
 use passes::constants::ConstantsPass;
 use passes::folding::Fold;
@@ -75,7 +75,14 @@ impl Bench {
 
     /// Runs a pass on what is held.
     pub fn run<G: Algebra, P: Pass>(&mut self, alg: &G, pass: &P) -> Result<(), PassFault>
-        ensures { λ r. ⌜ Keeps (holding (now (self .entry))) (holding (now (self .exit))) r ⌝ }
+        ensures history { λ r. ⌜ Follows (runs (G·Algebra .meaning (now (alg .entry))) (P·Pass .means (now (pass .entry))) r) (holding (now (self .entry))) (holding (now (self .exit))) ⌝ }
+        ensures answer { λ r. ⌜ Answers (runOn (P·Pass .means (now (pass .entry))) (G·Algebra .meaning (now (alg .entry))) (holding (now (self .entry)))) (holding (now (self .entry))) (holding (now (self .exit))) r ⌝ }
+    {
+        self.run_inner(alg, pass)
+    }
+
+    fn run_inner<G: Algebra, P: Pass>(&mut self, alg: &G, pass: &P) -> Result<(), PassFault>
+        ensures { λ r. ⌜ Answers (runOn (P·Pass .means (now (pass .entry))) (G·Algebra .meaning (now (alg .entry))) (holding (now (self .entry)))) (holding (now (self .entry))) (holding (now (self .exit))) r ⌝ }
     {
         if self.len == 0 {
             return Err(PassFault::Declined(Reason::BenchEmpty));
