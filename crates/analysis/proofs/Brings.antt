@@ -1,9 +1,9 @@
 -- What equations bring, learnt step by step.
 use mathlib.Core.Path.{_≡_, refl, sym, _∙_, ap, ap₂, subst}
-use mathlib.Core.Bool.{Bool, true, false, true≢false, false≢true}
+use mathlib.Core.Bool.{true, false, true≢false, false≢true}
 use mathlib.Core.List.{List, [], _∷_, _++_, map, append-nil, append-assoc}
 use mathlib.Core.Logic.{_⊎_, inl, inr}
-use Prim.Native.Nat.{ℕ, zero, suc, _+_, _-_, _*_, _<_, _≤_}
+use Prim.Native.Nat.{ℕ, zero, suc, _+_, _-_, _<_, _≤_}
 use native.Mathlib.Numerals.{add-one}
 use native.Mathlib.Omega.{arith}
 use lib.ListN.{length, getD, take, replicate, length-map}
@@ -17,16 +17,15 @@ use Rattle.definitions.specs.Values.{known, isFalse}
 use Rattle.definitions.specs.Fits.{Every}
 use Rattle.definitions.specs.Constants.{Known, Knowledge, Brought, clauseBrings, equationBrings, allBring, brought, learnt, learntAll, reachedBelow, below, stable, unreached, height, leastKnowledge}
 use Rattle.terms.specs.Known.{Alike}
-use Rattle.terms.specs.declared.value.Environment.{Environment}
 use Rattle.theorems.specs.KnowledgeLaws.{arities, Shaped}
 use Rattle.theorems.proofs.Listing.{at-lt, at-mapped, every-at, none-some, some-same}
 use Rattle.theorems.proofs.Knows.{Under, same, unknown, Unders, Reached, not-yet, already, Belows, from-belows, to-unders, from-unders, Met, All, to-all, all-left, all-right, all-join, equation-down, learnt-under, learnt-all, none-below, least}
-use Rattle.theorems.proofs.Stable.{Shape, OfShape, equation-shaped, learns, learns-all, met-up, belows-refl, belows-trans, from-all, stands}
+use Rattle.theorems.proofs.Stable.{Shape, equation-shaped, learns, learns-all, met-up, belows-refl, belows-trans, from-all, stands}
 use Rattle.analysis.specs.declared.known.Known.{Known as Record}
 use Rattle.analysis.specs.declared.known.Search.{Search}
 use Rattle.analysis.specs.Knows.{filled, kept, recorded, Fit, Records, Moved}
+use Rattle.analysis.proofs.Lists.{take-all}
 use Rattle.analysis.specs.Learns.{Holding, Fine, AboveStart, Swept, Begun}
-use Rattle.analysis.proofs.Lists.{at-some}
 
 -- the order by its test
 to-reached : (k l : Option Known) → reachedBelow k l ≡ true → Reached k l
@@ -137,7 +136,7 @@ behind [] t n h = h n
 behind (k ∷ ks) t zero h = refl
 behind (k ∷ ks) t (suc n) h = behind ks t n h
 
-nones : (n m : ℕ) → getD (replicate n None) m None ≡ None
+nones : (n m : ℕ) → getD {A = Option ℕ} (replicate n None) m None ≡ None
 nones zero m = refl
 nones (suc n) zero = refl
 nones (suc n) (suc m) = nones n m
@@ -157,12 +156,6 @@ take-one : {A : Type 0} (xs : List A) (k : ℕ) (x : A) → at xs k ≡ Some x �
 take-one [] k x e = none-some x e
 take-one (y ∷ xs) zero x e = ap (λ z. z ∷ []) (some-same y x e)
 take-one (y ∷ xs) (suc k) x e = ap (λ zs. y ∷ zs) (take-one xs k x e)
-
-take-all : {A : Type 0} (xs : List A) (k : ℕ) → length xs ≤ k → take k xs ≡ xs
-take-all [] zero h = refl
-take-all [] (suc k) h = refl
-take-all (y ∷ xs) zero h = absurd (omega arith)
-take-all (y ∷ xs) (suc k) h = ap (λ zs. y ∷ zs) (take-all xs k (omega arith))
 
 flat-append : {A : Type 0} (xs ys : List (List A)) → flat (xs ++ ys) ≡ flat xs ++ flat ys
 flat-append [] ys = refl
@@ -346,7 +339,7 @@ pub first-records : (s : System) → length (s .equations) ≤ 31 → Records (a
 first-records s h =
     record {
       fit = fit-none (s .equations);
-      few = omega (arith, length-map (s .equations) (λ _. None));
+      few = omega (arith, length-map {B = Option Known} (s .equations) (λ _. None));
       are = sym (nothing (s .equations) 31 h);
     }
   where
@@ -354,10 +347,11 @@ first-records s h =
     nones-kept zero = refl
     nones-kept (suc n) = ap (λ zs. kept None ∷ zs) (nones-kept n)
 
-    nothing : (es : List Equation) (n : ℕ) → length es ≤ n → map kept (map (λ _. None) es ++ replicate (n - length (map (λ _. None) es)) None) ≡ replicate n (kept None)
+    nothing : (es : List Equation) (n : ℕ) → length es ≤ n →
+        map kept (map {B = Option Known} (λ _. None) es ++ replicate (n - length (map {B = Option Known} (λ _. None) es)) None) ≡ replicate n (kept None)
     nothing [] n l = let z : n - 0 ≡ n = omega arith in ap (λ m. map kept (replicate m None)) z ∙ nones-kept n
     nothing (e ∷ es) zero l = absurd (omega arith)
     nothing (e ∷ es) (suc n) l =
-        let m = length (map (λ _. None) es) in
+        let m = length (map {B = Option Known} (λ _. None) es) in
         let z : suc n - suc m ≡ n - m = omega arith in
-        ap (λ zs. kept None ∷ zs) (ap (λ v. map kept (map (λ _. None) es ++ replicate v None)) z ∙ nothing es n (omega arith))
+        ap (λ zs. kept None ∷ zs) (ap (λ v. map kept (map {B = Option Known} (λ _. None) es ++ replicate v None)) z ∙ nothing es n (omega arith))

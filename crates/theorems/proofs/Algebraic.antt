@@ -38,11 +38,7 @@ bind-inv : {A B : Type 0} (o : Option A) (g : A → Option B) (y : B) → bind o
 bind-inv None g y e = none-some y e
 bind-inv (Some x) g y e = (x, refl, e)
 
-<<<<<<< ours
 -- an operation with sorts that are there and values within the result sort
-=======
--- an operation whose sorts exist and whose values lie below the size of its result sort
->>>>>>> theirs
 pub record OpRanges (sizes : List ℕ) (q : Op) : Type 0 where
   pub few : length (q .args) ≤ 3
   pub args : Every (λ s. s < length sizes) (q .args)

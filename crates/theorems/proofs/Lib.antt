@@ -54,7 +54,4 @@ pub mod TruthsC
 pub mod UniqueFiles
 pub mod Weights
 pub mod Whole
-<<<<<<< ours
 pub mod Main
-=======
->>>>>>> theirs

@@ -53,11 +53,7 @@ abbrev pub C-keeps-truths : Type 0
 C-keeps-truths = (a : Alg) → Lawful a → (s : System) → SystemFits a s → (x : Instance) → InRange a s x → AgreesWithKnown a s x →
     truths a (passC a s) (left (unknowns a s) x) ≡ truths a s x
 
-<<<<<<< ours
 -- what is not reached keeps its sign alone, and is false
-=======
--- an equation that is not reached becomes bare: no parameters, no quantifiers, h false, no clauses
->>>>>>> theirs
 abbrev pub C-bares-unreached : Type 0
 C-bares-unreached = (a : Alg) (s : System) (i : ℕ) (e : Equation) → at (s .equations) i ≡ Some e → getD (leastKnowledge a s) i None ≡ None →
     at (passC a s .equations) i ≡ Some (record { sign = e .sign; sorts = []; quantified = []; h = truthTerm 0; clauses = [] })
