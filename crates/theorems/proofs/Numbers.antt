@@ -67,17 +67,17 @@ at-none [] j e = omega arith
 at-none (y ∷ l) zero e = none-some y (sym e)
 at-none (y ∷ l) (suc j) e = let h : length l ≤ j = at-none l j e in omega arith
 
-at-left : {A : Type 0} (l m : List A) (j : ℕ) (x : A) → at l j ≡ Some x → at (l ++ m) j ≡ Some x
+pub at-left : {A : Type 0} (l m : List A) (j : ℕ) (x : A) → at l j ≡ Some x → at (l ++ m) j ≡ Some x
 at-left [] m j x e = none-some x e
 at-left (y ∷ l) m zero x e = e
 at-left (y ∷ l) m (suc j) x e = at-left l m j x e
 
-at-back : {A : Type 0} (l m : List A) (j : ℕ) → j < length l → at (l ++ m) j ≡ at l j
+pub at-back : {A : Type 0} (l m : List A) (j : ℕ) → j < length l → at (l ++ m) j ≡ at l j
 at-back [] m j h = absurd (omega arith)
 at-back (y ∷ l) m zero h = refl
 at-back (y ∷ l) m (suc j) h = at-back l m j (omega arith)
 
-at-last : {A : Type 0} (l : List A) (x : A) → at (l ++ (x ∷ [])) (length l) ≡ Some x
+pub at-last : {A : Type 0} (l : List A) (x : A) → at (l ++ (x ∷ [])) (length l) ≡ Some x
 at-last [] x = refl
 at-last (y ∷ l) x = at-last l x
 

@@ -1,0 +1,6 @@
+//! What the passes find out about a system file: the least knowledge of parameters, the parameters that reach a mark,
+//! and the equations that are reached.
+mod coming;
+mod known;
+mod learning;
+mod numbers;
