@@ -16,7 +16,7 @@ use Rattle.std.specs.declared.option.Option.{Option}
 use Rattle.std.specs.declared.option.Option.the-variants.{None, Some}
 use Rattle.definitions.specs.Lists.{at, upTo, from}
 use Rattle.theorems.proofs.Listing.{at-lt, at-map-some, at-mapped, some-same, none-some, getD-at, from-long}
-use Rattle.theorems.proofs.Numbers.{at-snoc, at-left, at-last}
+use Rattle.theorems.proofs.Numbers.{at-snoc, at-left, at-back, at-last}
 use Rattle.theorems.proofs.Expanding.{pigeons}
 use Rattle.analysis.specs.Comes.{Has, Tests, Joined, already, added, full, Only, Comes, Below}
 
@@ -27,7 +27,7 @@ at-take (x ∷ xs) (suc n) zero d h l = refl
 at-take (x ∷ xs) (suc n) (suc i) d h l = at-take xs n i d (omega arith) (omega arith)
 
 -- a slice keeps its length
-length-sets : {B : Type 0} (zs : List B) (i : ℕ) (v : B) → length (set zs i v) ≡ length zs
+pub length-sets : {B : Type 0} (zs : List B) (i : ℕ) (v : B) → length (set zs i v) ≡ length zs
 length-sets [] i v = refl
 length-sets (z ∷ zs) zero v = refl
 length-sets (z ∷ zs) (suc i) v = ap suc (length-sets zs i v)
@@ -122,6 +122,9 @@ module _ {A : Type 0} {P : A → Type 0} (code : A → ℕ) (n : ℕ) (low : (x 
 -- what came stays
 pub has-more : {A : Type 0} {P X : A → Type 0} (xs ys : List A) → Comes P X xs ys → (j : ℕ) (x : A) → at xs j ≡ Some x → at ys j ≡ Some x
 has-more xs ys c j x e = ap (λ z. at z j) (c .more .1) ∙ at-left xs (c .more .0) j x e
+
+pub has-less : {A : Type 0} {P X : A → Type 0} (xs ys : List A) → Comes P X xs ys → (j : ℕ) (x : A) → j < length xs → at ys j ≡ Some x → at xs j ≡ Some x
+has-less xs ys c j x h e = sym (ap (λ z. at z j) (c .more .1) ∙ at-back xs (c .more .0) j h) ∙ e
 
 pub comes-none : {A : Type 0} {P : A → Type 0} (X : ℕ → A → Type 0) (xs : List A) → Only P xs → Comes P (Below 0 X) xs xs
 comes-none X xs o = record { only = o; more = ([], sym (append-nil xs)); come = λ x (k, l, h). absurd (omega arith) }

@@ -1,2 +1,4 @@
 pub mod Comes
 pub mod Knows
+pub mod Sites
+pub mod Reaches

@@ -3,4 +3,8 @@
 mod coming;
 mod known;
 mod learning;
+mod masks;
 mod numbers;
+pub mod reachable;
+mod sites;
+mod walk;

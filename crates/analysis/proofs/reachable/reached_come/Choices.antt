@@ -1,0 +1,14 @@
+use mathlib.Core.Path.{_≡_}
+use Prim.Native.Nat.{_-_}
+use Rattle.definitions.specs.Systems.{System}
+use Rattle.analysis.specs.Sites.{Held}
+use Rattle.analysis.specs.Comes.{came, places}
+use Rattle.analysis.proofs.Calls.{Follows}
+use Rattle.analysis.proofs.reachable.reached_come.Given as given
+
+abbrev pub Inv-loop-x : given.InvT-loop-x
+Inv-loop-x g l = (places (l .list) ≡ places (l .entry .list)) × ((s : System) → Held (g .G·Algebra .meaning (l .alg)) (l .file) (l .outline) s →
+    places (l .entry .list) ≡ 31 → Follows s 0 (came (l .entry .list)) → Follows s (l .k) (came (l .list)))
+
+abbrev pub μ-loop-x : given.MeasureT-loop-x
+μ-loop-x g l = places (l .list) - l .k
