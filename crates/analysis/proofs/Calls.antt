@@ -12,20 +12,19 @@ use Rattle.std.specs.declared.option.Option.the-variants.{None, Some}
 use Rattle.definitions.specs.Lists.{at, flat}
 use Rattle.definitions.specs.Alg.{Alg, Lawful}
 use Rattle.definitions.specs.Systems.{Occurrence, Clause, Equation, System}
-use Rattle.definitions.specs.Fits.{SystemFits}
+use Rattle.definitions.specs.Fits.{SystemFits, headerOf}
 use Rattle.definitions.specs.Passes.{occurrences, reachable}
 use Rattle.definitions.specs.Reach.{ReachedEquation, is-start, is-called}
 use Rattle.system.specs.declared.outline.Outline.{Outline}
 use Rattle.system.specs.declared.places.OccurrenceAt.{OccurrenceAt}
-use Rattle.theorems.proofs.Listing.{at-lt, some-same, none-some}
-use Rattle.theorems.proofs.Reaching.{flat-mem-back, reached}
+use Rattle.theorems.proofs.Listing.{at-lt, some-same, none-some, at-map-some}
+use Rattle.theorems.proofs.Reaching.{flat-mem-back, reached, target-low}
 use Rattle.analysis.specs.declared.numbers.EquationNumber.{EquationNumber}
 use Rattle.analysis.specs.Sites.{Held, Stands}
 use Rattle.analysis.specs.Comes.{Has, Joined, Only, Comes, Below}
 use Rattle.analysis.specs.Reaches.{Reach, Target, Called, FlagOf}
-use Rattle.analysis.proofs.Lists.{at-some}
+use Rattle.analysis.proofs.Lists.{at-some, beyond, same-tests}
 use Rattle.analysis.proofs.Firsts.{comes-one, comes-as, comes-next, comes-none, has-more, has-less}
-use Rattle.analysis.proofs.Sited.{fits}
 
 -- members by their numbers
 pub at-mem : {X : Type 0} (xs : List X) (k : ℕ) (x : X) → at xs k ≡ Some x → List·Memᴰ x xs
@@ -154,22 +153,16 @@ module _ (s : System) where
           b .closed j (record { index = i }) (omega (arith, at-lt xs j (record { index = i }) w)) w (record { index = o .target })
           (record { equation = e; there = p; occurrence = o; occurs = m; is = refl })
 
+pub reached-there : (a : Alg) (s : System) → SystemFits a s → {i : ℕ} → ReachedEquation s i → (e : Equation) × (at (s .equations) i ≡ Some e)
+reached-there a s fit is-start = let (e, p, q) = at-map-some headerOf (s .equations) (s .start) (fit .header) (fit .there) in (e, p)
+reached-there a s fit (is-called {i} e o p m r) = at-some (s .equations) (o .target) (target-low a s fit i e p o m)
+
 -- so the flags are those of the equations that are reached
 pub flags-told : (a : Alg) (s : System) → SystemFits a s → (xs : List EquationNumber) (fs : List Bool) → length fs ≡ 31 →
     ((x : EquationNumber) → (Has xs x → Reach s x) × (ReachedEquation s (x .index) → Has xs x)) →
     ((i : ℕ) → i < 31 → FlagOf xs i (getD fs i false)) → (i : ℕ) → getD fs i false ≡ getD (reachable s) i false
-flags-told a s fit xs fs long r t i = same (getD fs i false) (getD (reachable s) i false) forth back
+flags-told a s fit xs fs long r t i = same-tests (getD fs i false) (getD (reachable s) i false) forth back
   where
-    same : (p q : Bool) → (p ≡ true → q ≡ true) → (q ≡ true → p ≡ true) → p ≡ q
-    same true q f g = sym (f refl)
-    same false true f g = absurd (false≢true (g refl))
-    same false false f g = refl
-
-    beyond : {X : Type 0} (xs : List X) (k : ℕ) (d : X) → length xs ≤ k → getD xs k d ≡ d
-    beyond [] k d h = refl
-    beyond (x ∷ xs) zero d h = absurd (omega arith)
-    beyond (x ∷ xs) (suc k) d h = beyond xs k d (omega arith)
-
     forth : getD fs i false ≡ true → getD (reachable s) i false ≡ true
     forth e = go (cases-lt i 31)
       where

@@ -20,7 +20,7 @@ use Rattle.theorems.proofs.Numbers.{at-snoc, at-left, at-back, at-last}
 use Rattle.theorems.proofs.Expanding.{pigeons}
 use Rattle.analysis.specs.Comes.{Has, Tests, Joined, already, added, full, Only, Comes, Below}
 
-at-take : {A : Type 0} (xs : List A) (n i : ℕ) (d : A) → i < n → n ≤ length xs → at (take n xs) i ≡ Some (getD xs i d)
+pub at-take : {A : Type 0} (xs : List A) (n i : ℕ) (d : A) → i < n → n ≤ length xs → at (take n xs) i ≡ Some (getD xs i d)
 at-take [] n i d h l = absurd (omega arith)
 at-take (x ∷ xs) zero i d h l = absurd (omega arith)
 at-take (x ∷ xs) (suc n) zero d h l = refl

@@ -1,5 +1,6 @@
 -- Lists with a filling behind them.
 use mathlib.Core.Path.{_≡_, refl, sym, _∙_, ap, ap₂}
+use mathlib.Core.Bool.{Bool, true, false, false≢true}
 use mathlib.Core.List.{List, [], _∷_, _++_, map}
 use Prim.Native.Nat.{ℕ, zero, suc, _+_, _-_, _<_, _≤_}
 use native.Mathlib.Omega.{arith}
@@ -57,3 +58,14 @@ pub again : {A : Type 0} (xs : List A) (k : ℕ) (d : A) → getD xs k d ≡ get
 again [] k d = refl
 again (x ∷ xs) zero d = refl
 again (x ∷ xs) (suc k) d = again xs k d
+
+pub beyond : {A : Type 0} (xs : List A) (k : ℕ) (d : A) → length xs ≤ k → getD xs k d ≡ d
+beyond [] k d h = refl
+beyond (x ∷ xs) zero d h = absurd (omega arith)
+beyond (x ∷ xs) (suc k) d h = beyond xs k d (omega arith)
+
+-- two tests that are true together
+pub same-tests : (p q : Bool) → (p ≡ true → q ≡ true) → (q ≡ true → p ≡ true) → p ≡ q
+same-tests true q f g = sym (f refl)
+same-tests false true f g = absurd (false≢true (g refl))
+same-tests false false f g = refl

@@ -19,6 +19,7 @@ use Rattle.definitions.specs.ReadSystem.{readSystem, reading}
 use Rattle.definitions.specs.Fits.{SystemFits}
 use Rattle.faults.specs.declared.Reason.the-variants.{BadLength}
 use Rattle.system.specs.declared.outline.Outline.{Outline}
+use Rattle.theorems.proofs.Listing.{at-lt}
 use Rattle.theorems.proofs.Sounds.{sound-system}
 use Rattle.analysis.specs.Sites.{Held}
 
@@ -98,3 +99,7 @@ short a f o s h = go (cases-lt 8192 (length f)) (h .read)
 -- and of a system that fits
 pub fits : (a : Alg) (f : List ℕ) (o : Outline) (s : System) → Lawful a → Held a f o s → SystemFits a s
 fits a f o s law h = sound-system f a law .run 0 (omega arith) s (o .end) (h .outlined .whole) .fact .1
+
+-- and has at most 31 equations
+pub low : (a : Alg) (f : List ℕ) (o : Outline) (s : System) → Held a f o s → (i : ℕ) (e : Equation) → at (s .equations) i ≡ Some e → i < o .count
+low a f o s h i e w = omega (arith, at-lt (s .equations) i e w, h .outlined .count)

@@ -63,7 +63,8 @@ fn reached_come<G: Algebra>(alg: &G, outline: &Outline, file: &[u8], list: &mut 
 
 // Which equations came.
 fn flags(list: &FirstCome<EquationNumber>) -> Reached
-    ensures { λ r. ⌜ ((i : ℕ) → i < 31 → FlagOf (came (now (list .entry))) i (getD (r .equations) i false)) ⌝ }
+    ensures long { λ r. ⌜ length (r .equations) ≡ 31 ⌝ }
+    ensures told { λ r. ⌜ ((i : ℕ) → i < 31 → FlagOf (came (now (list .entry))) i (getD (r .equations) i false)) ⌝ }
 {
     let mut equations = [false; 31];
     for index in 0..31u8 {

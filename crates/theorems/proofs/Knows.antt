@@ -191,7 +191,7 @@ pub all-right : (L : Knowledge) (bs cs : List Brought) → All L (bs ++ cs) → 
 all-right L [] cs h = h
 all-right L (b ∷ bs) cs h = all-right L bs cs (h .1)
 
-all-join : (L : Knowledge) (bs cs : List Brought) → All L bs → All L cs → All L (bs ++ cs)
+pub all-join : (L : Knowledge) (bs cs : List Brought) → All L bs → All L cs → All L (bs ++ cs)
 all-join L [] cs h k = k
 all-join L (b ∷ bs) cs h k = (h .0, all-join L bs cs (h .1) k)
 

@@ -141,7 +141,7 @@ rounds-reached s (suc n) j h =
 
 module _ (a : Alg) (s : System) (fit : SystemFits a s) where
   -- an occurrence of a system that fits has a target there
-  target-low : (i : ℕ) (e : Equation) → at (s .equations) i ≡ Some e → (o : Occurrence) → List·Memᴰ o (occurrences e) → o .target < length (s .equations)
+  pub target-low : (i : ℕ) (e : Equation) → at (s .equations) i ≡ Some e → (o : Occurrence) → List·Memᴰ o (occurrences e) → o .target < length (s .equations)
   target-low i e p o m =
       let b = every-at (BodyFits a (map headerOf (s .equations))) (s .equations) i e p (fit .bodies) in
       let (c, mc, mo) = flat-mem-back (λ (c : Clause). c .occurrences) (e .clauses) o m in
