@@ -2,17 +2,19 @@
 use mathlib.Core.Path.{_≡_, refl, sym, _∙_, ap, ap₂, subst}
 use mathlib.Core.Bool.{Bool, true, false, not, true≢false, false≢true}
 use mathlib.Core.List.{List, [], _∷_, _++_, map}
-use Prim.Native.Nat.{ℕ, zero, suc, _+_, _-_, _<_, _≤_}
+use Prim.Native.Nat.{ℕ, zero, suc, _+_, _-_, _*_, _<_, _≤_}
 use native.Mathlib.Omega.{arith}
 use lib.ListN.{length, getD, set, replicate, take}
 use Rattle.std.specs.declared.option.Option.{Option}
 use Rattle.std.specs.declared.option.Option.the-variants.{None, Some}
 use Rattle.definitions.specs.Lists.{at}
+use Rattle.definitions.specs.Fits.{Every}
 use Rattle.definitions.specs.Constants.{Known, Knowledge, agreed, agreedAll, taken, learnt}
 use Rattle.theorems.proofs.Listing.{none-some, some-same}
+use Rattle.analysis.proofs.Firsts.{length-sets}
 use Rattle.analysis.specs.declared.known.Known.{Known as Record}
 use Rattle.analysis.specs.declared.known.Search.{Search}
-use Rattle.analysis.specs.Knows.{unknowns, Joining, rankOf, rank, filled, kept, recorded, Fit, Records, Moved}
+use Rattle.analysis.specs.Knows.{unknowns, Joining, rankOf, rank, filled, kept, recorded, Fit, Records, Wide, Moved}
 
 pub is-false : (b : Bool) → not b ≡ true → b ≡ false
 is-false true e = absurd (false≢true e)
@@ -92,7 +94,6 @@ module _ (ns : List ℕ) (K : Knowledge) (ks : List Record) (j : ℕ) (xs : Know
       record {
         fit = step .fit;
         few = omega (arith, step .long, r .few);
-        slim = r .slim;
         are = ap₂ (λ (z : List Record) u. set z j u) (r .are) w ∙ sym (step .is) ∙ ap (λ n. map kept (learnt K j xs ++ replicate (31 - n) None)) (sym (step .long));
       }
 
@@ -119,17 +120,23 @@ module _ (ns : List ℕ) (K : Knowledge) (ks : List Record) (j : ℕ) (xs : Know
         subst (Records ns (learnt K j xs)) (set-self ks j d (sym here)) (learns-as d (same ∙ both (step .old) was (step .sized)))
 
 -- ranks
+every-set : (ks : List Record) (j : ℕ) (v : Record) → Every (λ (k : Record). length (k .values) ≤ 15) ks → length (v .values) ≤ 15 → Every (λ (k : Record). length (k .values) ≤ 15) (set ks j v)
+every-set [] j v h l = tt
+every-set (k ∷ ks) zero v h l = (l, h .1)
+every-set (k ∷ ks) (suc j) v h l = (h .0, every-set ks j v (h .1) l)
+
 rank-set : (ks : List Record) (j : ℕ) (d v : Record) → j < length ks → rank (set ks j v) + rankOf (getD ks j d) ≡ rank ks + rankOf v
 rank-set [] j d v h = absurd (omega arith)
 rank-set (k ∷ ks) zero d v h = omega arith
 rank-set (k ∷ ks) (suc j) d v h = omega (arith, rank-set ks j d v (omega arith))
 
 pub moved-refl : (s : Search) → Moved s s
-moved-refl s = record { calm = λ _. refl; up = omega arith; rise = λ p q. absurd (false≢true (sym p ∙ q)) }
+moved-refl s = record { wide = λ w. w; calm = λ _. refl; up = omega arith; rise = λ p q. absurd (false≢true (sym p ∙ q)) }
 
 pub moved-trans : (s t u : Search) → Moved s t → Moved t u → Moved s u
 moved-trans s t u m n =
     record {
+      wide = λ w. n .wide (m .wide w);
       calm = λ e. let f = n .calm e in f ∙ m .calm (sym (ap (λ (z : Search). z .less) f) ∙ e);
       up = omega (arith, m .up, n .up);
       rise = λ e f. go (t .less) refl e f;
@@ -139,12 +146,17 @@ moved-trans s t u m n =
     go true w e f = omega (arith, m .rise e w, n .up)
     go false w e f = omega (arith, ap (λ (z : Search). rank (z .equations)) (m .calm w), n .rise w f)
 
-pub moved-on : (s : Search) (j : ℕ) (d v : Record) → j < length (s .equations) → d ≡ getD (s .equations) j d → rankOf d < rankOf v →
+pub moved-on : (s : Search) (j : ℕ) (d v : Record) → j < length (s .equations) → d ≡ getD (s .equations) j d → rankOf d < rankOf v → length (v .values) ≤ 15 →
     Moved s (record { equations = set (s .equations) j v; less = true })
-moved-on s j d v h here l =
+moved-on s j d v h here l narrow =
     let n = rank-set (s .equations) j d v h in
     let m : rank (s .equations) < rank (set (s .equations) j v) = omega (arith, n, ap rankOf here) in
-    record { calm = λ e. absurd (true≢false e); up = omega (arith, m); rise = λ _ _. m }
+    record {
+      wide = λ w. (omega (arith, w .0, length-sets (s .equations) j v), every-set (s .equations) j v (w .1) narrow);
+      calm = λ e. absurd (true≢false e);
+      up = omega (arith, m);
+      rise = λ _ _. m;
+    }
 
 pub rank-new : (d : Record) (vs : List (Option ℕ)) → d .reached ≡ false → rankOf d < rankOf (record { reached = true; values = vs })
 rank-new d vs n = let e : rankOf d ≡ 0 = ap (λ b. elim b as (λ _. ℕ) [ true ↦ suc (unknowns (d .values)) | false ↦ 0 ]) n in omega (arith, e)
@@ -152,7 +164,31 @@ rank-new d vs n = let e : rankOf d ≡ 0 = ap (λ b. elim b as (λ _. ℕ) [ tru
 pub rank-less : (d : Record) (vs : List (Option ℕ)) → d .reached ≡ true → unknowns (d .values) < unknowns vs → rankOf d < rankOf (record { reached = true; values = vs })
 rank-less d vs t l = let e : rankOf d ≡ suc (unknowns (d .values)) = ap (λ b. elim b as (λ _. ℕ) [ true ↦ suc (unknowns (d .values)) | false ↦ 0 ]) t in omega (arith, e, l)
 
+pub agreed-short : (xs ys : List (Option ℕ)) → length (agreedAll xs ys) ≤ length ys
+agreed-short [] ys = omega arith
+agreed-short (x ∷ xs) [] = omega arith
+agreed-short (x ∷ xs) (y ∷ ys) = omega (arith, agreed-short xs ys)
+
 unknowns-few : (vs : List (Option ℕ)) → unknowns vs ≤ length vs
 unknowns-few [] = omega arith
 unknowns-few (None ∷ vs) = omega (arith, unknowns-few vs)
 unknowns-few (Some v ∷ vs) = omega (arith, unknowns-few vs)
+
+rank-one : (k : Record) → length (k .values) ≤ 15 → rankOf k ≤ 16
+rank-one k h = go (k .reached) refl
+  where
+    go : (b : Bool) → k .reached ≡ b → rankOf k ≤ 16
+    go true e = let z : rankOf k ≡ suc (unknowns (k .values)) = ap (λ b. elim b as (λ _. ℕ) [ true ↦ suc (unknowns (k .values)) | false ↦ 0 ]) e in omega (arith, z, unknowns-few (k .values))
+    go false e = let z : rankOf k ≡ 0 = ap (λ b. elim b as (λ _. ℕ) [ true ↦ suc (unknowns (k .values)) | false ↦ 0 ]) e in omega (arith, z)
+
+-- no knowledge is lost more often than this
+pub rank-few : (ks : List Record) → Every (λ (k : Record). length (k .values) ≤ 15) ks → rank ks ≤ 16 * length ks
+rank-few [] h = omega arith
+rank-few (k ∷ ks) h = omega (arith, rank-one k (h .0), rank-few ks (h .1))
+
+wide-none : (n : ℕ) → Every (λ (k : Record). length (k .values) ≤ 15) (replicate n (kept None))
+wide-none zero = tt
+wide-none (suc n) = (omega arith, wide-none n)
+
+pub wide-first : Wide (replicate 31 (kept None))
+wide-first = (omega arith, wide-none 31)

@@ -1,7 +1,9 @@
-pub mod Joins
-pub mod Lists
+pub mod Brings
+pub mod Calls
 pub mod Firsts
+pub mod Joins
 pub mod Kept
+pub mod Lists
+pub mod Points
 pub mod Sited
 pub mod Walked
-pub mod Calls

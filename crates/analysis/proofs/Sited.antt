@@ -7,7 +7,7 @@ use Prim.Native.Nat.{ℕ, zero, suc, _+_, _-_, _<_, _≤_}
 use native.Mathlib.Numerals.{add-one}
 use native.Mathlib.Omega.{arith}
 use lib.Dec.{ltb, eqb}
-use lib.ListN.{length, getD, set, drop}
+use lib.ListN.{length, getD, set, drop, take as front}
 use lib.Seq.{getD-set-same, getD-set-other}
 use Rattle.std.proofs.shelf.Tests.{cases-lt, lt-ltb}
 use Rattle.std.specs.declared.option.Option.the-variants.{None, Some}
@@ -16,10 +16,13 @@ use Rattle.definitions.specs.Alg.{Alg, Lawful}
 use Rattle.definitions.specs.Systems.{System, Equation}
 use Rattle.definitions.specs.Reading.{Step, next, stop, Reader, follow, repeated, ended, complete, Reading, got, bad}
 use Rattle.definitions.specs.ReadSystem.{readSystem, reading}
-use Rattle.definitions.specs.Fits.{SystemFits}
+use Rattle.definitions.specs.Fits.{SystemFits, headerOf}
 use Rattle.faults.specs.declared.Reason.the-variants.{BadLength}
 use Rattle.system.specs.declared.outline.Outline.{Outline}
-use Rattle.theorems.proofs.Listing.{at-lt}
+use Rattle.system.specs.declared.header.Header.{Header}
+use Rattle.system.specs.Files.{keptHeader}
+use Rattle.analysis.proofs.Firsts.{at-take}
+use Rattle.theorems.proofs.Listing.{at-lt, at-mapped, some-same}
 use Rattle.theorems.proofs.Sounds.{sound-system}
 use Rattle.analysis.specs.Sites.{Held}
 
@@ -103,3 +106,10 @@ fits a f o s law h = sound-system f a law .run 0 (omega arith) s (o .end) (h .ou
 -- and has at most 31 equations
 pub low : (a : Alg) (f : List ℕ) (o : Outline) (s : System) → Held a f o s → (i : ℕ) (e : Equation) → at (s .equations) i ≡ Some e → i < o .count
 low a f o s h i e w = omega (arith, at-lt (s .equations) i e w, h .outlined .count)
+
+-- the outline has its headers
+pub header-is : (a : Alg) (f : List ℕ) (o : Outline) (s : System) → Held a f o s → (i : ℕ) (e : Equation) → at (s .equations) i ≡ Some e → (d : Header) → length (o .headers) ≡ 31 →
+    keptHeader (getD (o .headers) i d) ≡ headerOf e
+header-is a f o s h i e w d long =
+    let here = at-mapped keptHeader (front (o .count) (o .headers)) i (getD (o .headers) i d) (at-take (o .headers) (o .count) i d (low a f o s h i e w) (omega (arith, o .few))) in
+    some-same (keptHeader (getD (o .headers) i d)) (headerOf e) (sym here ∙ ap (λ z. at z i) (h .outlined .headers) ∙ at-mapped headerOf (s .equations) i e w)

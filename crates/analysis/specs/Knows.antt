@@ -3,9 +3,10 @@ use mathlib.Core.Path.{_≡_}
 use mathlib.Core.Bool.{Bool, true, false}
 use mathlib.Core.List.{List, [], _∷_, _++_, map}
 use Prim.Native.Nat.{ℕ, suc, _+_, _-_, _<_, _≤_}
-use lib.ListN.{length, getD, replicate}
+use lib.ListN.{length, replicate}
 use Rattle.std.specs.declared.option.Option.{Option}
 use Rattle.std.specs.declared.option.Option.the-variants.{None, Some}
+use Rattle.definitions.specs.Fits.{Every}
 use Rattle.definitions.specs.Constants.{Known, Knowledge, agreedAll}
 use Rattle.analysis.specs.declared.known.Known.{Known as Kept}
 use Rattle.analysis.specs.declared.known.Search.{Search}
@@ -63,11 +64,15 @@ Fit (n ∷ ns) (Some ks ∷ K) = (length ks ≡ n) × Fit ns K
 pub record Records (ns : List ℕ) (K : Knowledge) (ks : List Kept) : Type 0 where
   pub fit : Fit ns K
   pub few : length K ≤ 31
-  pub slim : (i : ℕ) → getD ns i 0 ≤ 15
   pub are : ks ≡ recorded K
+
+-- at most 31 records of at most 15 values
+abbrev pub Wide : List Kept → Type 0
+Wide ks = (length ks ≤ 31) × Every (λ (k : Kept). length (k .values) ≤ 15) ks
 
 -- a search moves on: where nothing less is known it is as before, else knowledge was lost
 pub record Moved (old new : Search) : Type 0 where
+  pub wide : Wide (old .equations) → Wide (new .equations)
   pub calm : new .less ≡ false → new ≡ old
   pub up : rank (old .equations) ≤ rank (new .equations)
   pub rise : old .less ≡ false → new .less ≡ true → rank (old .equations) < rank (new .equations)

@@ -1,4 +1,5 @@
 pub mod Comes
 pub mod Knows
+pub mod Learns
 pub mod Sites
 pub mod Reaches

@@ -1,19 +1,40 @@
 //! Finding the parts of a body. In an accepted file every part is found.
 ghost use mathlib.Core.Path.{_≡_};
+ghost use mathlib.Core.List.{List};
 ghost use Prim.Native.Nat.{ℕ, _<_, _≤_};
+ghost use lib.ListN.{length};
 ghost use Rattle.std.specs.declared.option.Option.the-variants.{Some};
 ghost use Rattle.definitions.specs.Lists.{at as member};
+ghost use Rattle.definitions.specs.Alg.{Alg};
 ghost use Rattle.definitions.specs.Systems.{Clause, Equation, System};
+ghost use Rattle.system.specs.Files.{keptHeader};
 ghost use Rattle.analysis.specs.Sites.{Held, ClauseRead, BodyStands, ClauseStands};
 use crate::sites::BodySites;
 use crate::sites::ClauseSites;
 use algebra::Algebra;
+use system::header::Header;
 use system::reading::Outline;
 use system::walk::OccurrenceAt;
 use system::walk::end_of_clause;
 use system::walk::open_body;
 use system::walk::open_clause;
 use system::walk::open_occurrence;
+
+fn count_of(header: Header) -> u8
+    ensures few { λ r. ⌜ r ≤ 15 ⌝ }
+    ensures sorts { λ r. ⌜ r ≡ length (keptHeader header .sorts) ⌝ }
+{
+    header.count
+}
+
+/// The number of parameters of the equation numbered i.
+pub fn arity(outline: &Outline, i: u8) -> u8
+    requires { ⌜ i < 31 ⌝ }
+    ensures few { λ r. ⌜ r ≤ 15 ⌝ }
+    ensures is { λ r. ⌜ ((a : Alg) (f : List ℕ) (s : System) (e : Equation) → Held a f (now (outline .entry)) s → member (s .equations) i ≡ Some e → r ≡ length (e .sorts)) ⌝ }
+{
+    count_of(outline.headers[i as usize])
+}
 
 /// Where the body of the equation numbered i stands.
 pub fn body_sites<G: Algebra>(alg: &G, outline: &Outline, file: &[u8], i: u8) -> BodySites

@@ -1,11 +1,11 @@
-use mathlib.Core.Path.{_≡_, refl}
+use mathlib.Core.Path.{_≡_, refl, ap}
 use mathlib.Core.Bool.{Bool, true, false, not}
 use mathlib.Core.List.{[]}
-use lib.ListN.{getD}
+use lib.ListN.{length, getD}
 use native.Mathlib.Omega.{arith}
 use Rattle.analysis.specs.declared.known.Known.{Known}
 use Rattle.analysis.proofs.Lists.{again}
-use Rattle.analysis.proofs.Kept.{moved-on, moved-refl, rank-new, rank-less, learns-new, learns-join, learns-same, is-true, is-false}
+use Rattle.analysis.proofs.Kept.{moved-on, moved-refl, rank-new, rank-less, learns-new, learns-join, learns-same, is-true, is-false, agreed-short}
 use Rattle.analysis.proofs.learning.learn.Needs as need
 
 abbrev d₀ : Known
@@ -17,7 +17,7 @@ returns-then-not-old c =
     let d = getD ks (c .args .j) d₀ in
     let f = is-false (d .reached) (c .if-not-old .taken) in
     record {
-      moved = moved-on (c .args .search .now) (c .args .j) d (record { reached = true; values = c .args .values }) (omega arith) (again ks (c .args .j) d₀) (rank-new d (c .args .values) f);
+      moved = moved-on (c .args .search .now) (c .args .j) d (record { reached = true; values = c .args .values }) (omega arith) (again ks (c .args .j) d₀) (rank-new d (c .args .values) f) (omega arith);
       learns = λ ns K xs r e v. learns-new ns K ks (c .args .j) xs (c .args .values) d r e v (again ks (c .args .j) d₀) f;
     }
 
@@ -28,7 +28,7 @@ returns-then-join c =
     let t = is-true (d .reached) (c .if-not-old .left) in
     let m = c .joined-join .ensures in
     record {
-      moved = moved-on (c .args .search .now) (c .args .j) d (record { reached = true; values = c .joined-join .result .values }) (omega arith) (again ks (c .args .j) d₀) (rank-less d (c .joined-join .result .values) t (m .rise (c .if-join .taken)));
+      moved = moved-on (c .args .search .now) (c .args .j) d (record { reached = true; values = c .joined-join .result .values }) (omega arith) (again ks (c .args .j) d₀) (rank-less d (c .joined-join .result .values) t (m .rise (c .if-join .taken))) (omega (arith, ap length (m .joins), agreed-short (d .values) (c .args .values)));
       learns = λ ns K xs r e v. learns-join ns K ks (c .args .j) xs (c .args .values) d r e v (again ks (c .args .j) d₀) (c .joined-join .result .values) (c .joined-join .result .less) t m;
     }
 

@@ -1,0 +1,20 @@
+use mathlib.Core.Path.{_≡_}
+use mathlib.Core.List.{List, map}
+use Prim.Native.Nat.{ℕ, _-_}
+use lib.ListN.{length, getD, take}
+use Rattle.std.specs.declared.option.Option.the-variants.{None, Some}
+use Rattle.definitions.specs.Lists.{at}
+use Rattle.definitions.specs.Systems.{Occurrence, Clause, Equation, System}
+use Rattle.definitions.specs.Values.{known}
+use Rattle.definitions.specs.Constants.{Known, Knowledge, learntAll}
+use Rattle.theorems.specs.KnowledgeLaws.{arities}
+use Rattle.analysis.specs.Sites.{Held, ClauseRead, Stands}
+use Rattle.analysis.specs.Knows.{rank, Wide, Records, Moved}
+use Rattle.analysis.specs.Learns.{Holding, Fine, Swept, Begun}
+use Rattle.analysis.proofs.Lists.{fill}
+use Rattle.analysis.proofs.Brings.{someBring, clausesBring}
+use Rattle.analysis.proofs.knowledge.follow_equation.Given as given
+
+abbrev pub Inv-loop-k : given.InvT-loop-k
+Inv-loop-k g l = Moved (l .entry .search) (l .search) × ((s : System) (K : Knowledge) (e : Equation) (ks : Known) → Held (g .G·Algebra .meaning (l .alg)) (l .file) (l .outline) s → Records (arities (s .equations)) K (l .entry .search .equations) →
+    at (s .equations) (l .i) ≡ Some e → getD K (l .i) None ≡ Some ks → Records (arities (s .equations)) (learntAll K (clausesBring (g .G·Algebra .meaning (l .alg)) ks e (l .k))) (l .search .equations))

@@ -1,0 +1,49 @@
+use mathlib.Core.Path.{_≡_, refl, sym, _∙_, ap, subst}
+use mathlib.Core.Bool.{Bool, true, false}
+use mathlib.Core.List.{List, [], _∷_, map}
+use Prim.Native.Nat.{_<_, _≤_}
+use native.Mathlib.Numerals.{add-one}
+use native.Mathlib.Omega.{arith}
+use lib.ListN.{length, getD, set, take, replicate, length-map}
+use Rattle.std.specs.declared.option.Option.{Option}
+use Rattle.std.specs.declared.option.Option.the-variants.{None, Some}
+use Rattle.definitions.specs.Lists.{at, bind}
+use Rattle.definitions.specs.Systems.{Term, System, Equation, fold}
+use Rattle.definitions.specs.Values.{known, isFalse, kindKnown}
+use Rattle.definitions.specs.Constants.{learntAll, unreached}
+use Rattle.theorems.specs.KnowledgeLaws.{arities}
+use Rattle.theorems.proofs.Listing.{at-lt, at-mapped, at-map-some, some-same}
+use Rattle.theorems.proofs.FitShapes.{fits-shaped}
+use Rattle.analysis.specs.declared.known.Known.{Known}
+use Rattle.analysis.specs.declared.known.Search.{Search}
+use Rattle.analysis.specs.Sites.{Held}
+use Rattle.analysis.specs.Knows.{Records, Wide, kept}
+use Rattle.analysis.specs.Learns.{Holding, Swept, Begun}
+use Rattle.analysis.proofs.Lists.{again, at-some, fill, fill-next, fill-all}
+use Rattle.analysis.proofs.Kept.{moved-refl, moved-trans, is-false, is-true, rank-few, wide-first}
+use Rattle.analysis.proofs.Sited.{fits}
+use Rattle.analysis.proofs.Brings as b
+use Rattle.analysis.proofs.knowledge.settle.Needs as need
+
+pub loop-holds : need.loop-holds
+loop-holds g c = (c .pre, λ s h d. d)
+
+pub loop-again : need.loop-again
+loop-again g c =
+    (c .follow-all .ensures .moved .wide (c .loop .inv .0), λ s h d.
+    let x = c .loop .inv .1 s h d in
+    let a = g .G·Algebra .meaning (c .args .alg .now) in
+    b.goes-on a s (fits-shaped a s (fits a (c .args .file .now) (c .args .outline .now) s (g .G·Algebra·met .lawful (c .args .alg .now)) h)) (c .loop .search .equations) x (c .args .outline .now .count) (c .follow-all .last .search) (c .follow-all .ensures .sweeps s (x .known) h (x .records)))
+
+pub loop-less : need.loop-less
+loop-less g c =
+    let m = c .follow-all .ensures .moved in
+    let wide = m .wide (c .loop .inv .0) in
+    omega (arith, m .rise refl (is-true (c .follow-all .last .search .less) (c .if-not-search .left)), rank-few (c .follow-all .last .search .equations) (wide .1), wide .0)
+
+pub returns-then-not-search : need.returns-then-not-search
+returns-then-not-search g c = λ s h d.
+    let a = g .G·Algebra .meaning (c .args .alg .now) in
+    let x = c .loop .inv .1 s h d in
+    let old : Search = record { equations = c .loop .search .equations; less = false } in
+    b.settles a s (fits-shaped a s (fits a (c .args .file .now) (c .args .outline .now) s (g .G·Algebra·met .lawful (c .args .alg .now)) h)) old (c .args .outline .now .count) (c .follow-all .last .search) x (omega (arith, h .outlined .count)) (c .follow-all .ensures .sweeps s (x .known) h (x .records)) (c .follow-all .ensures .moved) (is-false (c .follow-all .last .search .less) (c .if-not-search .taken))

@@ -1,0 +1,22 @@
+use mathlib.Core.Path.{_≡_}
+use Prim.Native.Nat.{ℕ, _<_, _-_}
+use lib.ListN.{length, getD}
+use mathlib.Core.Bool.{true, false}
+use mathlib.Core.List.{List, []}
+use Rattle.std.specs.declared.option.Option.the-variants.{Some}
+use Rattle.definitions.specs.Lists.{at}
+use Rattle.definitions.specs.Systems.{Term, Clause, Equation, System, Occurrence}
+use Rattle.definitions.specs.Passes.{occursIn}
+use Rattle.definitions.specs.Reach.{ReachesMark}
+use Rattle.terms.specs.Shapes.{standing}
+use Rattle.analysis.specs.declared.numbers.Parameter.{Parameter}
+use Rattle.analysis.specs.Sites.{Held, ClauseRead}
+use Rattle.analysis.specs.Comes.{came, places, Only, Comes, Below}
+use Rattle.analysis.specs.Reaches.{Reaches, Points, Marked, Leads, MaskOf}
+use Rattle.analysis.proofs.Points.{OccursAt, InFront, PointsAt, LeadsBy, Follows}
+use Rattle.analysis.proofs.needed.occurring_come.Given as given
+
+abbrev pub Inv-loop-index : given.InvT-loop-index
+Inv-loop-index g l = (places (l .list) ≡ places (l .entry .list)) × ((s : System) (t : Term) → places (l .entry .list) ≡ 465 → standing (g .G·Algebra .meaning (l .alg)) 32 (l .file) (l .at) ≡ Some t →
+    ((k : ℕ) → k < l .count → occursIn k t ≡ true → ReachesMark s (l .equation) k) → Only (Reaches s) (came (l .entry .list)) →
+    Comes (Reaches s) (Below (l .index) (OccursAt (l .equation) t)) (came (l .entry .list)) (came (l .list)))
