@@ -137,7 +137,7 @@ behind [] t n h = h n
 behind (k ∷ ks) t zero h = refl
 behind (k ∷ ks) t (suc n) h = behind ks t n h
 
-nones : (n m : ℕ) → getD (replicate n None) m None ≡ None
+nones : (n m : ℕ) → getD {A = Option ℕ} (replicate n None) m None ≡ None
 nones zero m = refl
 nones (suc n) zero = refl
 nones (suc n) (suc m) = nones n m
@@ -354,10 +354,11 @@ first-records s h =
     nones-kept zero = refl
     nones-kept (suc n) = ap (λ zs. kept None ∷ zs) (nones-kept n)
 
-    nothing : (es : List Equation) (n : ℕ) → length es ≤ n → map kept (map (λ _. None) es ++ replicate (n - length (map (λ _. None) es)) None) ≡ replicate n (kept None)
+    nothing : (es : List Equation) (n : ℕ) → length es ≤ n →
+        map kept (map {B = Option Known} (λ _. None) es ++ replicate (n - length (map {B = Option Known} (λ _. None) es)) None) ≡ replicate n (kept None)
     nothing [] n l = let z : n - 0 ≡ n = omega arith in ap (λ m. map kept (replicate m None)) z ∙ nones-kept n
     nothing (e ∷ es) zero l = absurd (omega arith)
     nothing (e ∷ es) (suc n) l =
-        let m = length (map (λ _. None) es) in
+        let m = length (map {B = Option Known} (λ _. None) es) in
         let z : suc n - suc m ≡ n - m = omega arith in
-        ap (λ zs. kept None ∷ zs) (ap (λ v. map kept (map (λ _. None) es ++ replicate v None)) z ∙ nothing es n (omega arith))
+        ap (λ zs. kept None ∷ zs) (ap (λ v. map kept (map {B = Option Known} (λ _. None) es ++ replicate v None)) z ∙ nothing es n (omega arith))
