@@ -346,7 +346,7 @@ pub first-records : (s : System) → length (s .equations) ≤ 31 → Records (a
 first-records s h =
     record {
       fit = fit-none (s .equations);
-      few = omega (arith, length-map (s .equations) (λ _. None));
+      few = omega (arith, length-map {B = Option Known} (s .equations) (λ _. None));
       are = sym (nothing (s .equations) 31 h);
     }
   where
