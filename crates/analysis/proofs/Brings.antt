@@ -1,9 +1,9 @@
 -- What equations bring, learnt step by step.
 use mathlib.Core.Path.{_≡_, refl, sym, _∙_, ap, ap₂, subst}
-use mathlib.Core.Bool.{Bool, true, false, true≢false, false≢true}
+use mathlib.Core.Bool.{true, false, true≢false, false≢true}
 use mathlib.Core.List.{List, [], _∷_, _++_, map, append-nil, append-assoc}
 use mathlib.Core.Logic.{_⊎_, inl, inr}
-use Prim.Native.Nat.{ℕ, zero, suc, _+_, _-_, _*_, _<_, _≤_}
+use Prim.Native.Nat.{ℕ, zero, suc, _+_, _-_, _<_, _≤_}
 use native.Mathlib.Numerals.{add-one}
 use native.Mathlib.Omega.{arith}
 use lib.ListN.{length, getD, take, replicate, length-map}
@@ -17,16 +17,15 @@ use Rattle.definitions.specs.Values.{known, isFalse}
 use Rattle.definitions.specs.Fits.{Every}
 use Rattle.definitions.specs.Constants.{Known, Knowledge, Brought, clauseBrings, equationBrings, allBring, brought, learnt, learntAll, reachedBelow, below, stable, unreached, height, leastKnowledge}
 use Rattle.terms.specs.Known.{Alike}
-use Rattle.terms.specs.declared.value.Environment.{Environment}
 use Rattle.theorems.specs.KnowledgeLaws.{arities, Shaped}
 use Rattle.theorems.proofs.Listing.{at-lt, at-mapped, every-at, none-some, some-same}
 use Rattle.theorems.proofs.Knows.{Under, same, unknown, Unders, Reached, not-yet, already, Belows, from-belows, to-unders, from-unders, Met, All, to-all, all-left, all-right, all-join, equation-down, learnt-under, learnt-all, none-below, least}
-use Rattle.theorems.proofs.Stable.{Shape, OfShape, equation-shaped, learns, learns-all, met-up, belows-refl, belows-trans, from-all, stands}
+use Rattle.theorems.proofs.Stable.{Shape, equation-shaped, learns, learns-all, met-up, belows-refl, belows-trans, from-all, stands}
 use Rattle.analysis.specs.declared.known.Known.{Known as Record}
 use Rattle.analysis.specs.declared.known.Search.{Search}
 use Rattle.analysis.specs.Knows.{filled, kept, recorded, Fit, Records, Moved}
+use Rattle.analysis.proofs.Lists.{take-all}
 use Rattle.analysis.specs.Learns.{Holding, Fine, AboveStart, Swept, Begun}
-use Rattle.analysis.proofs.Lists.{at-some}
 
 -- the order by its test
 to-reached : (k l : Option Known) → reachedBelow k l ≡ true → Reached k l
@@ -157,12 +156,6 @@ take-one : {A : Type 0} (xs : List A) (k : ℕ) (x : A) → at xs k ≡ Some x �
 take-one [] k x e = none-some x e
 take-one (y ∷ xs) zero x e = ap (λ z. z ∷ []) (some-same y x e)
 take-one (y ∷ xs) (suc k) x e = ap (λ zs. y ∷ zs) (take-one xs k x e)
-
-take-all : {A : Type 0} (xs : List A) (k : ℕ) → length xs ≤ k → take k xs ≡ xs
-take-all [] zero h = refl
-take-all [] (suc k) h = refl
-take-all (y ∷ xs) zero h = absurd (omega arith)
-take-all (y ∷ xs) (suc k) h = ap (λ zs. y ∷ zs) (take-all xs k (omega arith))
 
 flat-append : {A : Type 0} (xs ys : List (List A)) → flat (xs ++ ys) ≡ flat xs ++ flat ys
 flat-append [] ys = refl

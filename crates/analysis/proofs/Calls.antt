@@ -7,24 +7,22 @@ use Prim.Native.Nat.{ℕ, zero, suc, _+_, _<_, _≤_}
 use native.Mathlib.Omega.{arith}
 use lib.ListN.{length, getD}
 use Rattle.std.proofs.shelf.Tests.{cases-lt}
-use Rattle.std.specs.Orderings.{Decides}
-use Rattle.std.specs.declared.option.Option.the-variants.{None, Some}
+use Rattle.std.specs.declared.option.Option.the-variants.{Some}
 use Rattle.definitions.specs.Lists.{at, flat}
-use Rattle.definitions.specs.Alg.{Alg, Lawful}
+use Rattle.definitions.specs.Alg.{Alg}
 use Rattle.definitions.specs.Systems.{Occurrence, Clause, Equation, System}
 use Rattle.definitions.specs.Fits.{SystemFits, headerOf}
 use Rattle.definitions.specs.Passes.{occurrences, reachable}
 use Rattle.definitions.specs.Reach.{ReachedEquation, is-start, is-called}
-use Rattle.system.specs.declared.outline.Outline.{Outline}
 use Rattle.system.specs.declared.places.OccurrenceAt.{OccurrenceAt}
 use Rattle.theorems.proofs.Listing.{at-lt, some-same, none-some, at-map-some}
 use Rattle.theorems.proofs.Reaching.{flat-mem-back, reached, target-low}
 use Rattle.analysis.specs.declared.numbers.EquationNumber.{EquationNumber}
-use Rattle.analysis.specs.Sites.{Held, Stands}
+use Rattle.analysis.specs.Sites.{Stands}
 use Rattle.analysis.specs.Comes.{Has, Joined, Only, Comes, Below}
 use Rattle.analysis.specs.Reaches.{Reach, Target, Called, FlagOf}
 use Rattle.analysis.proofs.Lists.{at-some, beyond, same-tests}
-use Rattle.analysis.proofs.Firsts.{comes-one, comes-as, comes-next, comes-none, has-more, has-less}
+use Rattle.analysis.proofs.Firsts.{comes-one, comes-as, comes-next, has-more, has-less}
 
 -- members by their numbers
 pub at-mem : {X : Type 0} (xs : List X) (k : ℕ) (x : X) → at xs k ≡ Some x → List·Memᴰ x xs
@@ -112,9 +110,11 @@ module _ (s : System) where
         go : (x : EquationNumber) → Called s i x → Below k (CalledBy e) x
         go x b =
             let same : b .equation ≡ e = some-same (b .equation) e (sym (b .there) ∙ there) in
-            let m = in-clause e (b .occurrence) (subst (λ (z : Equation). List·Memᴰ (b .occurrence) (occurrences z)) same (b .occurs)) in
-            (m .number, omega (arith, at-lt (e .clauses) (m .number) (m .clause) (m .there)),
-            record { clause = m .clause; there = m .there; target = record { number = m .place; occurrence = b .occurrence; there = m .occurs; is = b .is } })
+            let m = in-clause e (b .occurrence) (subst (λ (z : Equation). List·Memᴰ (b .occurrence) (occurrences z)) same (b .occurs)) in (
+              m .number,
+              omega (arith, at-lt (e .clauses) (m .number) (m .clause) (m .there)),
+              record { clause = m .clause; there = m .there; target = record { number = m .place; occurrence = b .occurrence; there = m .occurs; is = b .is } },
+            )
 
   -- the start comes first
   pub starts : (n : ℕ) (xs ys : List EquationNumber) (i : ℕ) → n ≡ 31 → xs ≡ [] → i ≡ s .start → i < 31 → Joined n xs (record { index = i }) ys → Follows s 0 ys

@@ -15,9 +15,10 @@ use Rattle.std.specs.Places.{At, Every}
 use Rattle.std.specs.declared.option.Option.{Option}
 use Rattle.std.specs.declared.option.Option.the-variants.{None, Some}
 use Rattle.definitions.specs.Lists.{at, upTo, from}
-use Rattle.theorems.proofs.Listing.{at-lt, at-map-some, at-mapped, some-same, none-some, getD-at, from-long}
+use Rattle.theorems.proofs.Listing.{at-lt, at-map-some, some-same, from-long}
 use Rattle.theorems.proofs.Numbers.{at-snoc, at-left, at-back, at-last}
 use Rattle.theorems.proofs.Expanding.{pigeons}
+use Rattle.analysis.proofs.Lists.{length-sets}
 use Rattle.analysis.specs.Comes.{Has, Tests, Joined, already, added, full, Only, Comes, Below}
 
 pub at-take : {A : Type 0} (xs : List A) (n i : ℕ) (d : A) → i < n → n ≤ length xs → at (take n xs) i ≡ Some (getD xs i d)
@@ -25,12 +26,6 @@ at-take [] n i d h l = absurd (omega arith)
 at-take (x ∷ xs) zero i d h l = absurd (omega arith)
 at-take (x ∷ xs) (suc n) zero d h l = refl
 at-take (x ∷ xs) (suc n) (suc i) d h l = at-take xs n i d (omega arith) (omega arith)
-
--- a slice keeps its length
-pub length-sets : {B : Type 0} (zs : List B) (i : ℕ) (v : B) → length (set zs i v) ≡ length zs
-length-sets [] i v = refl
-length-sets (z ∷ zs) zero v = refl
-length-sets (z ∷ zs) (suc i) v = ap suc (length-sets zs i v)
 
 -- what the search of a list says
 module _ {A : Type 0} (equals : A → A → Bool → Type 0) (t : Tests equals) (xs : List A) (n : ℕ) (x : A) (l : n ≤ length xs) where
@@ -100,11 +95,16 @@ upTo-at k (suc n) (suc i) h = upTo-at (suc k) n i (omega arith) ∙ ap Some (ome
 module _ {A : Type 0} {P : A → Type 0} (code : A → ℕ) (n : ℕ) (low : (x : A) → P x → code x < n) (apart : (x y : A) → P x → P y → code x ≡ code y → x ≡ y) where
   few : (xs : List A) → Only P xs → length xs ≤ n
   few xs o =
-      omega (arith, length-map xs code, from-long 0 n, pigeons (map code xs) (upTo n)
-      (λ i j c e f. let (x, p, q) = at-map-some code xs i c e in let (y, u, w) = at-map-some code xs j c f in
-      o .once i j x p (u ∙ ap Some (apart y x (o .all j y u) (o .all i x p) (w ∙ sym q))))
-      (λ i c e. let (x, p, q) = at-map-some code xs i c e in
-      (c, upTo-at 0 n c (subst (λ z. z < n) q (low x (o .all i x p))) ∙ ap Some (zero-add c))))
+      omega (
+        arith,
+        length-map xs code,
+        from-long 0 n,
+        pigeons (map code xs) (upTo n)
+            (λ i j c e f. let (x, p, q) = at-map-some code xs i c e in let (y, u, w) = at-map-some code xs j c f in
+            o .once i j x p (u ∙ ap Some (apart y x (o .all j y u) (o .all i x p) (w ∙ sym q))))
+            (λ i c e. let (x, p, q) = at-map-some code xs i c e in
+            (c, upTo-at 0 n c (subst (λ z. z < n) q (low x (o .all i x p))) ∙ ap Some (zero-add c))),
+      )
 
   -- so there is room for one more
   pub comes-one : (xs ys : List A) (x : A) → Only P xs → P x → Joined n xs x ys → Comes P (λ y. y ≡ x) xs ys

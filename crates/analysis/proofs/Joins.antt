@@ -1,7 +1,7 @@
 -- Joining lists of values, place by place.
-use mathlib.Core.Path.{_≡_, refl, sym, _∙_, ap, ap₂, subst}
+use mathlib.Core.Path.{_≡_, refl, sym, _∙_, ap, subst}
 use mathlib.Core.Bool.{Bool, true, false, _||_, true≢false, false≢true}
-use mathlib.Core.List.{List, [], _∷_}
+use mathlib.Core.List.{[], _∷_}
 use Prim.Native.Nat.{ℕ, zero, suc, _+_, _<_, _≤_}
 use native.Mathlib.Numerals.{add-one}
 use native.Mathlib.Omega.{arith}
@@ -10,6 +10,7 @@ use lib.ListN.{length, getD, set}
 use Rattle.std.specs.declared.option.Option.{Option}
 use Rattle.std.specs.declared.option.Option.the-variants.{None, Some}
 use Rattle.definitions.specs.Constants.{Known, agreed, agreedAll}
+use Rattle.analysis.proofs.Lists.{set-self, at-read}
 use Rattle.analysis.specs.Knows.{lacks, unknowns, loses, Joining}
 
 -- the first k joined
@@ -48,11 +49,6 @@ set-counts : (k : ℕ) (xs : Known) (v : Option ℕ) → k < length xs → unkno
 set-counts k [] v h = absurd (omega arith)
 set-counts zero (x ∷ xs) v h = omega arith
 set-counts (suc k) (x ∷ xs) v h = omega (arith, set-counts k xs v (omega arith))
-
-set-self : (k : ℕ) (xs : Known) (v : Option ℕ) → getD xs k None ≡ v → k < length xs → set xs k v ≡ xs
-set-self k [] v e h = absurd (omega arith)
-set-self zero (x ∷ xs) v e h = ap (λ z. z ∷ xs) (sym e)
-set-self (suc k) (x ∷ xs) v e h = ap (λ zs. x ∷ zs) (set-self k xs v e (omega arith))
 
 agreed-kept : (x y : Option ℕ) → loses x (agreed x y) ≡ false → agreed x y ≡ x
 agreed-kept None y h = refl
@@ -101,7 +97,7 @@ module _ (xs ys : Known) (k : ℕ) (zs : Known) (less : Bool) (j : Joins xs ys k
       are = ap (λ (z : Known). set z k new) (j .are) ∙ mixed-next k xs ys h l
 
       kept : loses old new ≡ false → set zs k new ≡ zs
-      kept e = set-self k zs new (here ∙ sym (agreed-kept old (getD ys k None) e)) long
+      kept e = set-self zs k new (at-read zs k new None long ∙ here ∙ sym (agreed-kept old (getD ys k None) e))
 
       same : (b : Bool) → (b || false) ≡ b
       same true = refl

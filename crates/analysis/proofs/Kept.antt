@@ -4,17 +4,17 @@ use mathlib.Core.Bool.{Bool, true, false, not, true≢false, false≢true}
 use mathlib.Core.List.{List, [], _∷_, _++_, map}
 use Prim.Native.Nat.{ℕ, zero, suc, _+_, _-_, _*_, _<_, _≤_}
 use native.Mathlib.Omega.{arith}
-use lib.ListN.{length, getD, set, replicate, take}
+use lib.ListN.{length, getD, set, replicate}
 use Rattle.std.specs.declared.option.Option.{Option}
 use Rattle.std.specs.declared.option.Option.the-variants.{None, Some}
 use Rattle.definitions.specs.Lists.{at}
 use Rattle.definitions.specs.Fits.{Every}
 use Rattle.definitions.specs.Constants.{Known, Knowledge, agreed, agreedAll, taken, learnt}
 use Rattle.theorems.proofs.Listing.{none-some, some-same}
-use Rattle.analysis.proofs.Firsts.{length-sets}
+use Rattle.analysis.proofs.Lists.{set-self, length-sets}
 use Rattle.analysis.specs.declared.known.Known.{Known as Record}
 use Rattle.analysis.specs.declared.known.Search.{Search}
-use Rattle.analysis.specs.Knows.{unknowns, Joining, rankOf, rank, filled, kept, recorded, Fit, Records, Wide, Moved}
+use Rattle.analysis.specs.Knows.{unknowns, Joining, rankOf, rank, filled, kept, Fit, Records, Wide, Moved}
 
 pub is-false : (b : Bool) → not b ≡ true → b ≡ false
 is-false true e = absurd (false≢true e)
@@ -74,11 +74,6 @@ learning (n ∷ ns) (None ∷ K) tail (suc j) xs f e =
 learning (n ∷ ns) (Some k ∷ K) tail (suc j) xs f e =
     let r = learning ns K tail j xs (f .1) e in
     record { old = r .old; there = r .there; sized = r .sized; is = ap (λ ks. kept (Some k) ∷ ks) (r .is); fit = (f .0, r .fit); long = ap suc (r .long); low = omega (arith, r .low) }
-
-set-self : {A : Type 0} (xs : List A) (j : ℕ) (v : A) → getD xs j v ≡ v → set xs j v ≡ xs
-set-self [] j v e = refl
-set-self (x ∷ xs) zero v e = ap (λ z. z ∷ xs) (sym e)
-set-self (x ∷ xs) (suc j) v e = ap (λ zs. x ∷ zs) (set-self xs j v e)
 
 -- the record of the equation is d, and its new one is v
 module _ (ns : List ℕ) (K : Knowledge) (ks : List Record) (j : ℕ) (xs : Known) (values : List (Option ℕ)) (d : Record) (r : Records ns K ks) (e : at ns j ≡ Some (length xs)) (f : values ≡ filled xs)

@@ -1,12 +1,11 @@
 -- Lists with a filling behind them.
-use mathlib.Core.Path.{_≡_, refl, sym, _∙_, ap, ap₂}
+use mathlib.Core.Path.{_≡_, refl, sym, _∙_, ap}
 use mathlib.Core.Bool.{Bool, true, false, false≢true}
-use mathlib.Core.List.{List, [], _∷_, _++_, map}
+use mathlib.Core.List.{List, [], _∷_, _++_}
 use Prim.Native.Nat.{ℕ, zero, suc, _+_, _-_, _<_, _≤_}
 use native.Mathlib.Omega.{arith}
 use lib.ListN.{length, getD, set, take, replicate}
-use Rattle.std.specs.declared.option.Option.{Option}
-use Rattle.std.specs.declared.option.Option.the-variants.{None, Some}
+use Rattle.std.specs.declared.option.Option.the-variants.{Some}
 use Rattle.definitions.specs.Lists.{at}
 
 -- n places, filled by d behind the members
@@ -32,15 +31,15 @@ fill-next d zero k (y ∷ xs) x e h = absurd (omega arith)
 fill-next d (suc n) zero (y ∷ xs) x e h = let i : y ≡ x = cc in ap (λ z. z ∷ fill d n []) (sym i)
 fill-next d (suc n) (suc k) (y ∷ xs) x e h = ap (λ ys. y ∷ ys) (fill-next d n k xs x e (omega arith))
 
+pub take-all : {A : Type 0} (xs : List A) (k : ℕ) → length xs ≤ k → take k xs ≡ xs
+take-all [] zero h = refl
+take-all [] (suc k) h = refl
+take-all (x ∷ xs) zero h = absurd (omega arith)
+take-all (x ∷ xs) (suc k) h = ap (λ ys. x ∷ ys) (take-all xs k (omega arith))
+
 -- all of the members
 pub fill-all : {A : Type 0} (d : A) (n k : ℕ) (xs : List A) → length xs ≤ k → length xs ≤ n → fill d n (take k xs) ≡ xs ++ replicate (n - length xs) d
 fill-all d n k xs h l = ap (fill d n) (take-all xs k h) ∙ fill-is d n xs l
-  where
-    take-all : {B : Type 0} (ys : List B) (k : ℕ) → length ys ≤ k → take k ys ≡ ys
-    take-all [] zero h = refl
-    take-all [] (suc k) h = refl
-    take-all (y ∷ ys) zero h = absurd (omega arith)
-    take-all (y ∷ ys) (suc k) h = ap (λ zs. y ∷ zs) (take-all ys k (omega arith))
 
 -- a member of a list with something behind it
 pub at-front : {A : Type 0} (xs ys : List A) (k : ℕ) (d : A) → k < length xs → at xs k ≡ Some (getD (xs ++ ys) k d)
@@ -69,3 +68,19 @@ pub same-tests : (p q : Bool) → (p ≡ true → q ≡ true) → (q ≡ true �
 same-tests true q f g = sym (f refl)
 same-tests false true f g = absurd (false≢true (g refl))
 same-tests false false f g = refl
+
+pub set-self : {A : Type 0} (xs : List A) (k : ℕ) (v : A) → getD xs k v ≡ v → set xs k v ≡ xs
+set-self [] k v e = refl
+set-self (x ∷ xs) zero v e = ap (λ z. z ∷ xs) (sym e)
+set-self (x ∷ xs) (suc k) v e = ap (λ zs. x ∷ zs) (set-self xs k v e)
+
+pub length-sets : {A : Type 0} (xs : List A) (k : ℕ) (v : A) → length (set xs k v) ≡ length xs
+length-sets [] k v = refl
+length-sets (x ∷ xs) zero v = refl
+length-sets (x ∷ xs) (suc k) v = ap suc (length-sets xs k v)
+
+-- the default does not matter where there is a member
+pub at-read : {A : Type 0} (xs : List A) (k : ℕ) (d e : A) → k < length xs → getD xs k d ≡ getD xs k e
+at-read [] k d e h = absurd (omega arith)
+at-read (x ∷ xs) zero d e h = refl
+at-read (x ∷ xs) (suc k) d e h = at-read xs k d e (omega arith)

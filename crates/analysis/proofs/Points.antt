@@ -1,27 +1,25 @@
 -- The parameters that reach a mark, as they come.
 use mathlib.Core.Path.{_≡_, refl, sym, _∙_, ap, ap₂, subst}
-use mathlib.Core.Bool.{Bool, true, false, _||_, true≢false, false≢true}
+use mathlib.Core.Bool.{Bool, true, false, true≢false, false≢true}
 use mathlib.Core.List.{List, [], _∷_, List·Memᴰ}
 use mathlib.Core.Logic.{_⊎_, inl, inr}
 use Prim.Native.Nat.{ℕ, zero, suc, _+_, _*_, _<_, _≤_}
 use native.Mathlib.Omega.{arith}
 use lib.ListN.{length, getD}
 use Rattle.std.proofs.shelf.Tests.{cases-lt, or-left, or-right}
-use Rattle.std.specs.declared.option.Option.the-variants.{None, Some}
+use Rattle.std.specs.declared.option.Option.the-variants.{Some}
 use Rattle.definitions.specs.Lists.{at, some}
 use Rattle.definitions.specs.Alg.{Alg}
 use Rattle.definitions.specs.Systems.{Term, Occurrence, Clause, Equation, System}
 use Rattle.definitions.specs.Passes.{occursIn, marked, occurrences, needed}
 use Rattle.definitions.specs.Reach.{ReachesMark, is-marked, leads-on}
-use Rattle.system.specs.declared.places.OccurrenceAt.{OccurrenceAt}
 use Rattle.theorems.proofs.Listing.{at-lt, some-same, none-some}
-use Rattle.theorems.proofs.Reaching.{reaches-mark, or-cases, some-found, some-mem}
+use Rattle.theorems.proofs.Reaching.{reaches-mark, or-cases, some-found}
 use Rattle.analysis.specs.declared.numbers.Parameter.{Parameter}
-use Rattle.analysis.specs.Sites.{Stands}
 use Rattle.analysis.specs.Comes.{Has, Joined, Only, Comes, Below}
 use Rattle.analysis.specs.Reaches.{Reaches, Occurring, Marked, Feeds, Points, Leads, MaskOf}
-use Rattle.analysis.proofs.Lists.{at-some, beyond, same-tests}
-use Rattle.analysis.proofs.Firsts.{comes-one, comes-as, comes-both, comes-nothing, comes-next, comes-none, has-more, has-less}
+use Rattle.analysis.proofs.Lists.{beyond, same-tests}
+use Rattle.analysis.proofs.Firsts.{comes-one, comes-as, comes-both, comes-nothing, comes-next, has-more, has-less}
 use Rattle.analysis.proofs.Calls.{occurs-in, in-clause, mem-at}
 
 abbrev pub code : Parameter → ℕ
@@ -170,9 +168,11 @@ module _ (s : System) where
           go x b =
               let same : b .equation ≡ e = some-same (b .equation) e (sym (b .there) ∙ there) in
               let m = in-clause e (b .occurrence) (subst (λ (z : Equation). List·Memᴰ (b .occurrence) (occurrences z)) same (b .occurs)) in
-              let f : Feeds i n p (b .occurrence) x = subst (λ z. Feeds i z p (b .occurrence) x) (ap (λ (z : Equation). length (z .sorts)) same ∙ sym arity) (b .feeds) in
-              (m .number, omega (arith, at-lt (e .clauses) (m .number) (m .clause) (m .there)),
-              record { clause = m .clause; there = m .there; points = record { number = m .place; occurrence = b .occurrence; there = m .occurs; feeds = f } })
+              let f : Feeds i n p (b .occurrence) x = subst (λ z. Feeds i z p (b .occurrence) x) (ap (λ (z : Equation). length (z .sorts)) same ∙ sym arity) (b .feeds) in (
+                m .number,
+                omega (arith, at-lt (e .clauses) (m .number) (m .clause) (m .there)),
+                record { clause = m .clause; there = m .there; points = record { number = m .place; occurrence = b .occurrence; there = m .occurs; feeds = f } },
+              )
 
   -- the occurrences of a clause
   module _ (a : Alg) (f : List ℕ) (i n : ℕ) (p : Parameter) (c : Clause) where

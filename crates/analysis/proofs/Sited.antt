@@ -10,7 +10,7 @@ use lib.Dec.{ltb, eqb}
 use lib.ListN.{length, getD, set, drop, take as front}
 use lib.Seq.{getD-set-same, getD-set-other}
 use Rattle.std.proofs.shelf.Tests.{cases-lt, lt-ltb}
-use Rattle.std.specs.declared.option.Option.the-variants.{None, Some}
+use Rattle.std.specs.declared.option.Option.the-variants.{Some}
 use Rattle.definitions.specs.Lists.{at}
 use Rattle.definitions.specs.Alg.{Alg, Lawful}
 use Rattle.definitions.specs.Systems.{System, Equation}

@@ -18,8 +18,8 @@ use Rattle.system.specs.declared.places.BodyAt.{BodyAt}
 use Rattle.system.specs.declared.places.ClauseAt.{ClauseAt}
 use Rattle.system.specs.declared.places.OccurrenceAt.{OccurrenceAt}
 use Rattle.system.specs.Whole.{keptHeaders}
-use Rattle.system.specs.Walks.{BodyFound, ClauseFound, OccurrenceFound, EndFound, BodyOf, ClauseOf, OccurrenceOf}
-use Rattle.theorems.proofs.Listing.{at-lt}
+use Rattle.system.specs.Walks.{BodyFound, ClauseFound, OccurrenceFound, EndFound, BodyOf, ClauseOf}
+use Rattle.theorems.proofs.Listing.{at-lt, none-some, some-same}
 use Rattle.analysis.specs.Sites.{Held, ClauseRead, BodyStands, Stands, ClauseStands}
 use Rattle.analysis.proofs.Sited.{Sited, sited-none, Head, head, sited-next, short}
 
@@ -32,12 +32,6 @@ BodyGoes a f o e n k ps p = (q : ℕ) × Sited (readClause a (keptHeaders o) (sc
 
 abbrev pub ClauseGoes : Alg → List ℕ → Outline → Scope → Clause → ℕ → ℕ → List OccurrenceAt → ℕ → Type 0
 ClauseGoes a f o sc c n k xs p = (q : ℕ) × Sited (readOccurrence a (keptHeaders o) sc) (Stands a f) f (c .occurrences) q n k xs p
-
-none-some : {X : Type 0} (x : X) → _≡_ {A = Option X} None (Some x) → ⊥
-none-some x e = let z : _≡_ {A = ℕ} 0 1 = cc in omega arith
-
-some-same : {X : Type 0} (x y : X) → _≡_ {A = Option X} (Some x) (Some y) → x ≡ y
-some-same x y e = cc
 
 module _ (a : Alg) (f : List ℕ) (o : Outline) (s : System) (e : Equation) (i : ℕ) (held : Held a f o s) (there : at (s .equations) i ≡ Some e) where
   abbrev reads : Reader Clause
@@ -63,9 +57,11 @@ module _ (a : Alg) (f : List ℕ) (o : Outline) (s : System) (e : Equation) (i :
       pub body-goes : k < b .count → k < length ps → (t : ℕ) → EndFound a (keptHeaders o) f p (Some t) → BodyGoes a f o e (b .count) (k + 1) (set ps k p) t
       body-goes h l t n =
           let d = heads h in
-          let m : t ≡ d .end = some-same t (d .end) (n (scope (headerOf e)) (d .item) (d .end) (short a f o s held) (d .read)) in
-          (goes .0, sited-next reads (ReadAt a f o e) f (e .clauses) (goes .0) (b .count) k ps p (goes .1) h (d .item) t p (d .there)
-          (ap (λ z. repeated reads (b .count - (k + 1)) f z) m ∙ d .rest) (d .end, d .read) l)
+          let m : t ≡ d .end = some-same t (d .end) (n (scope (headerOf e)) (d .item) (d .end) (short a f o s held) (d .read)) in (
+            goes .0,
+            sited-next reads (ReadAt a f o e) f (e .clauses) (goes .0) (b .count) k ps p (goes .1) h (d .item) t p (d .there)
+                (ap (λ z. repeated reads (b .count - (k + 1)) f z) m ∙ d .rest) (d .end, d .read) l,
+          )
 
       pub body-ends : b .count ≤ k → (at-body : b .h ≡ getD (o .bodies) i 0) → (few : b .count ≤ 15) → BodyStands a f o e (record { h = getD (o .bodies) i 0; count = b .count; clauses = ps; few = few })
       body-ends h w few =
@@ -100,10 +96,12 @@ module _ (a : Alg) (f : List ℕ) (o : Outline) (c : Clause) (at-place : ℕ) (r
       pub clause-goes : k < b .count → k < length xs → (x : OccurrenceAt) → OccurrenceFound a (keptHeaders o) f p (Some x) → ClauseGoes a f o (read .scope) c (b .count) (k + 1) (set xs k x) (x .next)
       clause-goes h l x n =
           let d = clause-heads h in
-          let w = n (read .scope) (d .item) (d .end) (read .short) (d .read) in
-          (goes .0, sited-next reads-one (Stands a f) f (c .occurrences) (goes .0) (b .count) k xs p (goes .1) h (d .item) (x .next) x (d .there)
-          (ap (λ z. repeated reads-one (b .count - (k + 1)) f z) (w .end) ∙ d .rest)
-          (record { target = w .target; count = w .count; arguments = w .arguments }) l)
+          let w = n (read .scope) (d .item) (d .end) (read .short) (d .read) in (
+            goes .0,
+            sited-next reads-one (Stands a f) f (c .occurrences) (goes .0) (b .count) k xs p (goes .1) h (d .item) (x .next) x (d .there)
+                (ap (λ z. repeated reads-one (b .count - (k + 1)) f z) (w .end) ∙ d .rest)
+                (record { target = w .target; count = w .count; arguments = w .arguments }) l,
+          )
 
       pub clause-ends : b .count ≤ k → b .guard ≡ at-place → (few : b .count ≤ 8) → ClauseStands a f c (record { guard = at-place; count = b .count; occurrences = xs; few = few })
       clause-ends h w few =

@@ -13,7 +13,6 @@ use Rattle.terms.specs.Shapes.{standing}
 use Rattle.system.specs.declared.outline.Outline.{Outline}
 use Rattle.system.specs.declared.places.OccurrenceAt.{OccurrenceAt}
 use Rattle.system.specs.Whole.{keptHeaders, Outlined}
-use Rattle.system.specs.Walks.{OccurrenceOf}
 use Rattle.analysis.specs.declared.sites.BodySites.{BodySites}
 use Rattle.analysis.specs.declared.sites.ClauseSites.{ClauseSites}
 

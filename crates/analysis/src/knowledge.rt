@@ -1,9 +1,9 @@
 //! The least knowledge of parameters: the values that all reached instances share.
 ghost use mathlib.Core.Path.{_≡_};
-ghost use mathlib.Core.Bool.{true, false};
+ghost use mathlib.Core.Bool.{false};
 ghost use mathlib.Core.List.{List, map};
-ghost use Prim.Native.Nat.{ℕ, _<_, _≤_};
-ghost use lib.ListN.{length, getD};
+ghost use Prim.Native.Nat.{ℕ, _<_};
+ghost use lib.ListN.{getD};
 ghost use Rattle.std.specs.declared.option.Option.the-variants.{None, Some};
 ghost use Rattle.definitions.specs.Lists.{at as member};
 ghost use Rattle.definitions.specs.Systems.{Term as Tree, Occurrence, Clause, Equation, System};
@@ -50,7 +50,12 @@ fn known_false<G: Algebra>(alg: &G, env: &Environment, file: &[u8], at: usize) -
 }
 
 // The known values of the arguments.
-fn argument_values<G: Algebra>(alg: &G, env: &Environment, occurrence: OccurrenceAt, file: &[u8]) -> [Option<u8>; 15]
+fn argument_values<G: Algebra>(
+    alg: &G,
+    env: &Environment,
+    occurrence: OccurrenceAt,
+    file: &[u8],
+) -> [Option<u8>; 15]
     ensures { λ r. ⌜ ((o : Occurrence) (ks : Values) → Stands (meaning (now (alg .entry))) (now (file .entry)) o occurrence → Holding ks (now (env .entry)) → r ≡ filled (map (knownOf (meaning (now (alg .entry))) ks) (o .arguments))) ⌝ }
 {
     let mut values = [None; 15];
@@ -62,7 +67,14 @@ fn argument_values<G: Algebra>(alg: &G, env: &Environment, occurrence: Occurrenc
 }
 
 // Follows the occurrences of the clause at the place, unless its guard is known false.
-fn follow_clause<G: Algebra>(alg: &G, outline: &Outline, env: &Environment, file: &[u8], at: usize, search: &mut Search)
+fn follow_clause<G: Algebra>(
+    alg: &G,
+    outline: &Outline,
+    env: &Environment,
+    file: &[u8],
+    at: usize,
+    search: &mut Search,
+)
     ensures moved { λ _. ⌜ Moved (now (search .entry)) (now (search .exit)) ⌝ }
     ensures learns { λ _. ⌜ ((ns : List ℕ) (K : Knowing) (c : Clause) (ks : Values) → Records ns K (now (search .entry) .equations) → ClauseRead (meaning (now (alg .entry))) (now (file .entry)) (now (outline .entry)) c at → Fine ns c → Holding ks (now (env .entry)) → Records ns (learntAll K (clauseBrings (meaning (now (alg .entry))) ks c)) (now (search .exit) .equations)) ⌝ }
 {
@@ -88,7 +100,10 @@ fn follow_equation<G: Algebra>(alg: &G, outline: &Outline, file: &[u8], i: u8, s
         return;
     }
     let parameters = known.values;
-    let env = Environment { parameters, variables: [None; 3] };
+    let env = Environment {
+        parameters,
+        variables: [None; 3],
+    };
     let body = body_sites(alg, outline, file, i);
     if known_false(alg, &env, file, body.h) {
         return;
@@ -128,7 +143,13 @@ pub fn least_knowledge<G: Algebra>(alg: &G, file: &[u8]) -> Result<Knowledge, Re
     ensures { λ r. ⌜ LeastKnown (meaning (now (alg .entry))) (now (file .entry)) r ⌝ }
 {
     let outline = read(alg, file)?;
-    let mut search = Search { equations: [Known { reached: false, values: [None; 15] }; 31], less: false };
+    let mut search = Search {
+        equations: [Known {
+            reached: false,
+            values: [None; 15],
+        }; 31],
+        less: false,
+    };
     let start = outline.start;
     let count = arity(&outline, start.equation);
     let values = start.values;

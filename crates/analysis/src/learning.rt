@@ -54,7 +54,10 @@ pub fn learn(search: &mut Search, j: u8, values: [Option<u8>; 15])
 {
     let old = search.equations[j as usize];
     if !old.reached {
-        search.equations[j as usize] = Known { reached: true, values };
+        search.equations[j as usize] = Known {
+            reached: true,
+            values,
+        };
         search.less = true;
         return;
     }
@@ -62,7 +65,10 @@ pub fn learn(search: &mut Search, j: u8, values: [Option<u8>; 15])
     let join = joined(before, values);
     if join.less {
         let values = join.values;
-        search.equations[j as usize] = Known { reached: true, values };
+        search.equations[j as usize] = Known {
+            reached: true,
+            values,
+        };
         search.less = true;
     }
 }

@@ -33,7 +33,14 @@ use terms::occur::occurs;
 use terms::view::View;
 
 // The parameters of the equation that occur in the term at the place come.
-fn occurring_come<G: Algebra>(alg: &G, equation: u8, count: u8, file: &[u8], at: usize, list: &mut FirstCome<Parameter>)
+fn occurring_come<G: Algebra>(
+    alg: &G,
+    equation: u8,
+    count: u8,
+    file: &[u8],
+    at: usize,
+    list: &mut FirstCome<Parameter>,
+)
     requires low { ⌜ equation < 31 ⌝ }
     requires few { ⌜ count ≤ 15 ⌝ }
     ensures same { λ _. ⌜ places (now (list .exit)) ≡ places (now (list .entry)) ⌝ }
@@ -46,7 +53,13 @@ fn occurring_come<G: Algebra>(alg: &G, equation: u8, count: u8, file: &[u8], at:
 }
 
 // The marked parameters of the equation come.
-fn marked_come<G: Algebra>(alg: &G, outline: &Outline, file: &[u8], equation: u8, list: &mut FirstCome<Parameter>)
+fn marked_come<G: Algebra>(
+    alg: &G,
+    outline: &Outline,
+    file: &[u8],
+    equation: u8,
+    list: &mut FirstCome<Parameter>,
+)
     requires { ⌜ equation < 31 ⌝ }
     ensures same { λ _. ⌜ places (now (list .exit)) ≡ places (now (list .entry)) ⌝ }
     ensures come { λ _. ⌜ ((s : System) (e : Equation) → Held (meaning (now (alg .entry))) (now (file .entry)) (now (outline .entry)) s → member (s .equations) equation ≡ Some e → places (now (list .entry)) ≡ 465 → Only (Reaches s) (came (now (list .entry))) → Comes (Reaches s) (Marked s equation) (came (now (list .entry))) (came (now (list .exit)))) ⌝ }
@@ -61,7 +74,12 @@ fn marked_come<G: Algebra>(alg: &G, outline: &Outline, file: &[u8], equation: u8
 }
 
 // The marked parameters of every equation come.
-fn all_marked_come<G: Algebra>(alg: &G, outline: &Outline, file: &[u8], list: &mut FirstCome<Parameter>)
+fn all_marked_come<G: Algebra>(
+    alg: &G,
+    outline: &Outline,
+    file: &[u8],
+    list: &mut FirstCome<Parameter>,
+)
     ensures same { λ _. ⌜ places (now (list .exit)) ≡ places (now (list .entry)) ⌝ }
     ensures come { λ _. ⌜ ((s : System) → Held (meaning (now (alg .entry))) (now (file .entry)) (now (outline .entry)) s → places (now (list .entry)) ≡ 465 → Only (Reaches s) (came (now (list .entry))) → Comes (Reaches s) (Below (now (outline .entry) .count) (Marked s)) (came (now (list .entry))) (came (now (list .exit)))) ⌝ }
 {
@@ -71,7 +89,15 @@ fn all_marked_come<G: Algebra>(alg: &G, outline: &Outline, file: &[u8], list: &m
 }
 
 // The parameters of the equation that occur in the occurrence's argument for the parameter p come.
-fn feeding_come<G: Algebra>(alg: &G, file: &[u8], occurrence: OccurrenceAt, equation: u8, count: u8, p: Parameter, list: &mut FirstCome<Parameter>)
+fn feeding_come<G: Algebra>(
+    alg: &G,
+    file: &[u8],
+    occurrence: OccurrenceAt,
+    equation: u8,
+    count: u8,
+    p: Parameter,
+    list: &mut FirstCome<Parameter>,
+)
     requires low { ⌜ equation < 31 ⌝ }
     requires few { ⌜ count ≤ 15 ⌝ }
     ensures same { λ _. ⌜ places (now (list .exit)) ≡ places (now (list .entry)) ⌝ }
@@ -83,11 +109,27 @@ fn feeding_come<G: Algebra>(alg: &G, file: &[u8], occurrence: OccurrenceAt, equa
     if p.index >= occurrence.count {
         return;
     }
-    occurring_come(alg, equation, count, file, occurrence.arguments[p.index as usize], list);
+    occurring_come(
+        alg,
+        equation,
+        count,
+        file,
+        occurrence.arguments[p.index as usize],
+        list,
+    );
 }
 
 // The parameters of the equation that the clause at the place has in an argument for the parameter p come.
-fn pointing_come<G: Algebra>(alg: &G, outline: &Outline, file: &[u8], at: usize, equation: u8, count: u8, p: Parameter, list: &mut FirstCome<Parameter>)
+fn pointing_come<G: Algebra>(
+    alg: &G,
+    outline: &Outline,
+    file: &[u8],
+    at: usize,
+    equation: u8,
+    count: u8,
+    p: Parameter,
+    list: &mut FirstCome<Parameter>,
+)
     requires low { ⌜ equation < 31 ⌝ }
     requires few { ⌜ count ≤ 15 ⌝ }
     ensures same { λ _. ⌜ places (now (list .exit)) ≡ places (now (list .entry)) ⌝ }
@@ -101,7 +143,14 @@ fn pointing_come<G: Algebra>(alg: &G, outline: &Outline, file: &[u8], at: usize,
 }
 
 // The same for every clause of the equation.
-fn leading_come<G: Algebra>(alg: &G, outline: &Outline, file: &[u8], equation: u8, p: Parameter, list: &mut FirstCome<Parameter>)
+fn leading_come<G: Algebra>(
+    alg: &G,
+    outline: &Outline,
+    file: &[u8],
+    equation: u8,
+    p: Parameter,
+    list: &mut FirstCome<Parameter>,
+)
     requires { ⌜ equation < 31 ⌝ }
     ensures same { λ _. ⌜ places (now (list .exit)) ≡ places (now (list .entry)) ⌝ }
     ensures come { λ _. ⌜ ((s : System) (e : Equation) → Held (meaning (now (alg .entry))) (now (file .entry)) (now (outline .entry)) s → member (s .equations) equation ≡ Some e → ReachesMark s (p .equation) (p .index) → places (now (list .entry)) ≡ 465 → Only (Reaches s) (came (now (list .entry))) → Comes (Reaches s) (Leads s p equation) (came (now (list .entry))) (came (now (list .exit)))) ⌝ }
@@ -109,12 +158,27 @@ fn leading_come<G: Algebra>(alg: &G, outline: &Outline, file: &[u8], equation: u
     let count = arity(outline, equation);
     let body = body_sites(alg, outline, file, equation);
     for k in 0..body.count {
-        pointing_come(alg, outline, file, body.clauses[k as usize], equation, count, p, list);
+        pointing_come(
+            alg,
+            outline,
+            file,
+            body.clauses[k as usize],
+            equation,
+            count,
+            p,
+            list,
+        );
     }
 }
 
 // The parameters that point to p come.
-fn all_leading_come<G: Algebra>(alg: &G, outline: &Outline, file: &[u8], p: Parameter, list: &mut FirstCome<Parameter>)
+fn all_leading_come<G: Algebra>(
+    alg: &G,
+    outline: &Outline,
+    file: &[u8],
+    p: Parameter,
+    list: &mut FirstCome<Parameter>,
+)
     ensures same { λ _. ⌜ places (now (list .exit)) ≡ places (now (list .entry)) ⌝ }
     ensures come { λ _. ⌜ ((s : System) → Held (meaning (now (alg .entry))) (now (file .entry)) (now (outline .entry)) s → ReachesMark s (p .equation) (p .index) → places (now (list .entry)) ≡ 465 → Only (Reaches s) (came (now (list .entry))) → Comes (Reaches s) (Below (now (outline .entry) .count) (Leads s p)) (came (now (list .entry))) (came (now (list .exit)))) ⌝ }
 {
@@ -165,7 +229,10 @@ pub fn needed<G: Algebra>(alg: &G, file: &[u8]) -> Result<Masks, ReadFault>
     ensures { λ r. ⌜ NeededTold (meaning (now (alg .entry))) (now (file .entry)) r ⌝ }
 {
     let outline = read(alg, file)?;
-    let mut room = [Parameter { equation: 0, index: 0 }; 465];
+    let mut room = [Parameter {
+        equation: 0,
+        index: 0,
+    }; 465];
     let mut list = FirstCome::new(&mut room);
     needed_come(alg, &outline, file, &mut list);
     Ok(masks(&list))

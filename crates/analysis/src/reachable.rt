@@ -1,7 +1,7 @@
 //! The equations that a chain of occurrences reaches from the start's.
 ghost use mathlib.Core.Path.{_≡_};
-ghost use mathlib.Core.Bool.{true, false};
-ghost use Prim.Native.Nat.{ℕ, _<_, _≤_};
+ghost use mathlib.Core.Bool.{false};
+ghost use Prim.Native.Nat.{ℕ, _<_};
 ghost use lib.ListN.{length, getD};
 ghost use Rattle.std.specs.declared.option.Option.the-variants.{Some};
 ghost use Rattle.definitions.specs.Lists.{at as member};
@@ -24,19 +24,36 @@ use system::reading::Outline;
 use system::reading::read;
 
 // The targets of the occurrences of the clause at the place come.
-fn targets_come<G: Algebra>(alg: &G, outline: &Outline, file: &[u8], at: usize, list: &mut FirstCome<EquationNumber>)
+fn targets_come<G: Algebra>(
+    alg: &G,
+    outline: &Outline,
+    file: &[u8],
+    at: usize,
+    list: &mut FirstCome<EquationNumber>,
+)
     ensures same { λ _. ⌜ places (now (list .exit)) ≡ places (now (list .entry)) ⌝ }
     ensures come { λ _. ⌜ ((s : System) (c : Clause) → ClauseRead (meaning (now (alg .entry))) (now (file .entry)) (now (outline .entry)) c at → ((x : EquationNumber) → Target c x → ReachedEquation s (x .index)) → places (now (list .entry)) ≡ 31 → Only (Reach s) (came (now (list .entry))) → Comes (Reach s) (Target c) (came (now (list .entry))) (came (now (list .exit)))) ⌝ }
 {
     let clause = clause_sites(alg, outline, file, at);
     for k in 0..clause.count {
         let occurrence = clause.occurrences[k as usize];
-        bring(list, EquationNumber { index: occurrence.target });
+        bring(
+            list,
+            EquationNumber {
+                index: occurrence.target,
+            },
+        );
     }
 }
 
 // The same for every clause of the equation.
-fn called_come<G: Algebra>(alg: &G, outline: &Outline, file: &[u8], equation: u8, list: &mut FirstCome<EquationNumber>)
+fn called_come<G: Algebra>(
+    alg: &G,
+    outline: &Outline,
+    file: &[u8],
+    equation: u8,
+    list: &mut FirstCome<EquationNumber>,
+)
     ensures same { λ _. ⌜ places (now (list .exit)) ≡ places (now (list .entry)) ⌝ }
     ensures come { λ _. ⌜ ((s : System) (e : Equation) → Held (meaning (now (alg .entry))) (now (file .entry)) (now (outline .entry)) s → member (s .equations) equation ≡ Some e → ReachedEquation s equation → places (now (list .entry)) ≡ 31 → Only (Reach s) (came (now (list .entry))) → Comes (Reach s) (Called s equation) (came (now (list .entry))) (came (now (list .exit)))) ⌝ }
 {
@@ -50,10 +67,20 @@ fn called_come<G: Algebra>(alg: &G, outline: &Outline, file: &[u8], equation: u8
 }
 
 // The equations that are reached come, the start's first.
-fn reached_come<G: Algebra>(alg: &G, outline: &Outline, file: &[u8], list: &mut FirstCome<EquationNumber>)
+fn reached_come<G: Algebra>(
+    alg: &G,
+    outline: &Outline,
+    file: &[u8],
+    list: &mut FirstCome<EquationNumber>,
+)
     ensures { λ _. ⌜ ((s : System) → Held (meaning (now (alg .entry))) (now (file .entry)) (now (outline .entry)) s → places (now (list .entry)) ≡ 31 → now (list .entry) .len ≡ 0 → (x : EquationNumber) → (Has (came (now (list .exit))) x → Reach s x) × (ReachedEquation s (x .index) → Has (came (now (list .exit))) x)) ⌝ }
 {
-    bring(list, EquationNumber { index: outline.start.equation });
+    bring(
+        list,
+        EquationNumber {
+            index: outline.start.equation,
+        },
+    );
     let mut k = 0usize;
     while let Some(x) = list.get(k) {
         called_come(alg, outline, file, x.index, list);

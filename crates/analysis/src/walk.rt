@@ -44,34 +44,63 @@ pub fn body_sites<G: Algebra>(alg: &G, outline: &Outline, file: &[u8], i: u8) ->
     let at = outline.bodies[i as usize];
     let mut clauses = [0usize; 15];
     let Some(body) = open_body(alg, file, at) else {
-        return BodySites { h: at, count: 0, clauses };
+        return BodySites {
+            h: at,
+            count: 0,
+            clauses,
+        };
     };
     let mut next = body.next;
     for k in 0..body.count {
         clauses[k as usize] = next;
         let Some(end) = end_of_clause(alg, outline, file, next) else {
-            return BodySites { h: at, count: 0, clauses };
+            return BodySites {
+                h: at,
+                count: 0,
+                clauses,
+            };
         };
         next = end;
     }
-    BodySites { h: at, count: body.count, clauses }
+    BodySites {
+        h: at,
+        count: body.count,
+        clauses,
+    }
 }
 
 /// Where the clause at the place stands.
 pub fn clause_sites<G: Algebra>(alg: &G, outline: &Outline, file: &[u8], at: usize) -> ClauseSites
     ensures { λ r. ⌜ ((c : Clause) → ClauseRead (meaning (now (alg .entry))) (now (file .entry)) (now (outline .entry)) c at → ClauseStands (meaning (now (alg .entry))) (now (file .entry)) c r) ⌝ }
 {
-    let mut occurrences = [OccurrenceAt { target: 0, count: 0, arguments: [0; 15], next: 0 }; 8];
+    let mut occurrences = [OccurrenceAt {
+        target: 0,
+        count: 0,
+        arguments: [0; 15],
+        next: 0,
+    }; 8];
     let Some(clause) = open_clause(alg, file, at) else {
-        return ClauseSites { guard: at, count: 0, occurrences };
+        return ClauseSites {
+            guard: at,
+            count: 0,
+            occurrences,
+        };
     };
     let mut next = clause.next;
     for k in 0..clause.count {
         let Some(occurrence) = open_occurrence(alg, outline, file, next) else {
-            return ClauseSites { guard: at, count: 0, occurrences };
+            return ClauseSites {
+                guard: at,
+                count: 0,
+                occurrences,
+            };
         };
         occurrences[k as usize] = occurrence;
         next = occurrence.next;
     }
-    ClauseSites { guard: at, count: clause.count, occurrences }
+    ClauseSites {
+        guard: at,
+        count: clause.count,
+        occurrences,
+    }
 }

@@ -1,18 +1,10 @@
-use mathlib.Core.Path.{_≡_}
-use mathlib.Core.List.{List, map}
-use Prim.Native.Nat.{ℕ, _-_}
-use lib.ListN.{length, getD, take}
-use Rattle.std.specs.declared.option.Option.the-variants.{None, Some}
-use Rattle.definitions.specs.Lists.{at}
-use Rattle.definitions.specs.Systems.{Occurrence, Clause, Equation, System}
-use Rattle.definitions.specs.Values.{known}
-use Rattle.definitions.specs.Constants.{Known, Knowledge, learntAll}
+use Prim.Native.Nat.{_-_}
+use Rattle.definitions.specs.Systems.{System}
+use Rattle.definitions.specs.Constants.{Knowledge}
 use Rattle.theorems.specs.KnowledgeLaws.{arities}
-use Rattle.analysis.specs.Sites.{Held, ClauseRead, Stands}
-use Rattle.analysis.specs.Knows.{rank, Wide, Records, Moved}
-use Rattle.analysis.specs.Learns.{Holding, Fine, Swept, Begun}
-use Rattle.analysis.proofs.Lists.{fill}
-use Rattle.analysis.proofs.Brings.{someBring, clausesBring}
+use Rattle.analysis.specs.Sites.{Held}
+use Rattle.analysis.specs.Knows.{Records, Moved}
+use Rattle.analysis.specs.Learns.{Swept}
 use Rattle.analysis.proofs.knowledge.follow_all.Given as given
 
 abbrev pub Inv-loop-i : given.InvT-loop-i

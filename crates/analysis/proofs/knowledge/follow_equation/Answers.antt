@@ -1,26 +1,20 @@
-use mathlib.Core.Path.{_≡_, refl, sym, _∙_, ap, subst}
-use mathlib.Core.Bool.{Bool, true, false}
-use mathlib.Core.List.{List, [], _∷_, map}
-use Prim.Native.Nat.{_<_, _≤_}
-use native.Mathlib.Numerals.{add-one}
+use mathlib.Core.Path.{_≡_, sym, _∙_, subst}
+use mathlib.Core.Bool.{false}
+use mathlib.Core.List.{[], _∷_}
+use Prim.Native.Nat.{_<_}
 use native.Mathlib.Omega.{arith}
-use lib.ListN.{length, getD, set, take, replicate, length-map}
-use Rattle.std.specs.declared.option.Option.{Option}
-use Rattle.std.specs.declared.option.Option.the-variants.{None, Some}
-use Rattle.definitions.specs.Lists.{at, bind}
-use Rattle.definitions.specs.Systems.{Term, System, Equation, fold}
-use Rattle.definitions.specs.Values.{known, isFalse, kindKnown}
-use Rattle.definitions.specs.Constants.{learntAll, unreached}
+use lib.ListN.{length, getD, length-map}
+use Rattle.std.specs.declared.option.Option.the-variants.{None}
+use Rattle.definitions.specs.Systems.{Equation}
+use Rattle.definitions.specs.Constants.{learntAll}
 use Rattle.theorems.specs.KnowledgeLaws.{arities}
-use Rattle.theorems.proofs.Listing.{at-lt, at-mapped, at-map-some, some-same}
+use Rattle.theorems.proofs.Listing.{at-lt, some-same}
 use Rattle.theorems.proofs.FitShapes.{fits-shaped}
 use Rattle.analysis.specs.declared.known.Known.{Known}
-use Rattle.analysis.specs.declared.known.Search.{Search}
-use Rattle.analysis.specs.Sites.{Held}
-use Rattle.analysis.specs.Knows.{Records, Wide, kept}
-use Rattle.analysis.specs.Learns.{Holding, Swept, Begun}
-use Rattle.analysis.proofs.Lists.{again, at-some, fill, fill-next, fill-all}
-use Rattle.analysis.proofs.Kept.{moved-refl, moved-trans, is-false, is-true, rank-few, wide-first}
+use Rattle.analysis.specs.Knows.{Records}
+use Rattle.analysis.specs.Learns.{Holding}
+use Rattle.analysis.proofs.Lists.{again, at-some}
+use Rattle.analysis.proofs.Kept.{moved-refl, moved-trans, is-false, is-true}
 use Rattle.analysis.proofs.Sited.{fits}
 use Rattle.analysis.proofs.Brings as b
 use Rattle.analysis.proofs.knowledge.follow_equation.Needs as need
@@ -57,7 +51,9 @@ pub loop-k-holds : need.loop-k-holds
 loop-k-holds g c = (moved-refl (c .args .search .now), λ s K e ks h r w p. r)
 
 pub loop-k-again : need.loop-k-again
-loop-k-again g c = (moved-trans (c .args .search .now) (c .loop-k .search) (c .follow-clause .last .search) (c .loop-k .inv .0) (c .follow-clause .ensures .moved), λ s K e ks h r w p.
+loop-k-again g c = (
+  moved-trans (c .args .search .now) (c .loop-k .search) (c .follow-clause .last .search) (c .loop-k .inv .0) (c .follow-clause .ensures .moved),
+  λ s K e ks h r w p.
       let a = g .G·Algebra .meaning (c .args .alg .now) in
       let old = c .args .search .now in
       let d = getD (old .equations) (c .args .i) d₀ in
@@ -71,7 +67,8 @@ loop-k-again g c = (moved-trans (c .args .search .now) (c .loop-k .search) (c .f
       let hold : Holding ks (record { parameters = d .values; variables = None ∷ None ∷ None ∷ [] }) = subst (λ z. Holding z (record { parameters = d .values; variables = None ∷ None ∷ None ∷ [] })) same (b.holding ks′ (d .values) q) in
       subst (λ z. Records (arities (s .equations)) z (c .follow-clause .last .search .equations)) (b.clause-more a ks e K (c .loop-k .k) k v)
       (c .follow-clause .ensures .learns (arities (s .equations)) (learntAll K (b.clausesBring a ks e (c .loop-k .k))) k ks (c .loop-k .inv .1 s K e ks h r w p) (st .clauses (c .loop-k .k) k v 0)
-      (b.clause-fine s shaped (c .args .i) e w (c .loop-k .k) k v) hold))
+      (b.clause-fine s shaped (c .args .i) e w (c .loop-k .k) k v) hold),
+)
 
 pub returns : need.returns
 returns g c = record {

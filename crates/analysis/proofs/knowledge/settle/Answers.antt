@@ -1,26 +1,10 @@
-use mathlib.Core.Path.{_≡_, refl, sym, _∙_, ap, subst}
-use mathlib.Core.Bool.{Bool, true, false}
-use mathlib.Core.List.{List, [], _∷_, map}
-use Prim.Native.Nat.{_<_, _≤_}
-use native.Mathlib.Numerals.{add-one}
+use mathlib.Core.Path.{refl}
+use mathlib.Core.Bool.{false}
 use native.Mathlib.Omega.{arith}
-use lib.ListN.{length, getD, set, take, replicate, length-map}
-use Rattle.std.specs.declared.option.Option.{Option}
-use Rattle.std.specs.declared.option.Option.the-variants.{None, Some}
-use Rattle.definitions.specs.Lists.{at, bind}
-use Rattle.definitions.specs.Systems.{Term, System, Equation, fold}
-use Rattle.definitions.specs.Values.{known, isFalse, kindKnown}
-use Rattle.definitions.specs.Constants.{learntAll, unreached}
-use Rattle.theorems.specs.KnowledgeLaws.{arities}
-use Rattle.theorems.proofs.Listing.{at-lt, at-mapped, at-map-some, some-same}
+use Rattle.definitions.specs.Values.{known}
 use Rattle.theorems.proofs.FitShapes.{fits-shaped}
-use Rattle.analysis.specs.declared.known.Known.{Known}
 use Rattle.analysis.specs.declared.known.Search.{Search}
-use Rattle.analysis.specs.Sites.{Held}
-use Rattle.analysis.specs.Knows.{Records, Wide, kept}
-use Rattle.analysis.specs.Learns.{Holding, Swept, Begun}
-use Rattle.analysis.proofs.Lists.{again, at-some, fill, fill-next, fill-all}
-use Rattle.analysis.proofs.Kept.{moved-refl, moved-trans, is-false, is-true, rank-few, wide-first}
+use Rattle.analysis.proofs.Kept.{rank-few}
 use Rattle.analysis.proofs.Sited.{fits}
 use Rattle.analysis.proofs.Brings as b
 use Rattle.analysis.proofs.knowledge.settle.Needs as need
@@ -29,11 +13,13 @@ pub loop-search-holds : need.loop-search-holds
 loop-search-holds g c = (c .pre, λ s h d. d)
 
 pub loop-search-again : need.loop-search-again
-loop-search-again g c =
-    (c .follow-all .ensures .moved .wide (c .loop-search .inv .0), λ s h d.
-    let x = c .loop-search .inv .1 s h d in
-    let a = g .G·Algebra .meaning (c .args .alg .now) in
-    b.goes-on a s (fits-shaped a s (fits a (c .args .file .now) (c .args .outline .now) s (g .G·Algebra·met .lawful (c .args .alg .now)) h)) (c .loop-search .search .equations) x (c .args .outline .now .count) (c .follow-all .last .search) (c .follow-all .ensures .sweeps s (x .known) h (x .records)))
+loop-search-again g c = (
+  c .follow-all .ensures .moved .wide (c .loop-search .inv .0),
+  λ s h d.
+      let x = c .loop-search .inv .1 s h d in
+      let a = g .G·Algebra .meaning (c .args .alg .now) in
+      b.goes-on a s (fits-shaped a s (fits a (c .args .file .now) (c .args .outline .now) s (g .G·Algebra·met .lawful (c .args .alg .now)) h)) (c .loop-search .search .equations) x (c .args .outline .now .count) (c .follow-all .last .search) (c .follow-all .ensures .sweeps s (x .known) h (x .records)),
+)
 
 pub loop-search-less : need.loop-search-less
 loop-search-less g c =

@@ -1,5 +1,5 @@
 use native.Mathlib.Omega.{arith}
-use Rattle.analysis.proofs.Joins.{joins-none, joins-more, joins-end}
+use Rattle.analysis.proofs.Joins.{joins-more, joins-end}
 use Rattle.analysis.proofs.learning.joined.Needs as need
 
 pub loop-k-again : need.loop-k-again

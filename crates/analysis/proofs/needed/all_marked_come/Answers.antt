@@ -1,21 +1,9 @@
-use mathlib.Core.Path.{_≡_, refl, sym, _∙_, ap, subst}
-use mathlib.Core.Bool.{true, false}
-use mathlib.Core.List.{[]}
-use mathlib.Core.Logic.{_≢_}
-use Prim.Native.Nat.{_<_, _≤_}
+use mathlib.Core.Path.{_≡_, refl, _∙_, subst}
 use native.Mathlib.Omega.{arith}
-use lib.ListN.{length, getD, take}
-use lib.Seq.{length-take-le, getD-set-same, getD-set-other}
-use borrow.Author.Count.{below-more}
-use Rattle.std.specs.declared.option.Option.the-variants.{Some}
-use Rattle.terms.specs.Known.{occursAt}
-use Rattle.analysis.specs.declared.numbers.Parameter.{Parameter}
-use Rattle.analysis.specs.Sites.{Held}
-use Rattle.analysis.specs.Comes.{came, places, Only, Comes, Below}
-use Rattle.analysis.specs.Reaches.{MaskOf, Reaches, Marked, Leads, Feeds}
+use Rattle.analysis.specs.Comes.{came, Comes, Below}
+use Rattle.analysis.specs.Reaches.{Reaches, Marked}
 use Rattle.analysis.proofs.Lists.{at-some}
-use Rattle.analysis.proofs.Firsts.{at-take, comes-none, comes-nothing, comes-next, length-sets}
-use Rattle.analysis.proofs.Sited.{low}
+use Rattle.analysis.proofs.Firsts.{comes-none, comes-next}
 use Rattle.analysis.proofs.Points as p
 use Rattle.analysis.proofs.needed.all_marked_come.Needs as need
 
@@ -23,12 +11,15 @@ pub loop-equation-holds : need.loop-equation-holds
 loop-equation-holds g c = (refl, λ s h q o. comes-none (Marked s) (came (c .args .list .now)) o)
 
 pub loop-equation-again : need.loop-equation-again
-loop-equation-again g c = (c .marked-come .ensures .same ∙ c .loop-equation .inv .0, λ s h q o.
-    let i = c .loop-equation .equation in
-    let (e, w) = at-some (s .equations) i (omega (arith, h .outlined .count)) in
-    let d = c .loop-equation .inv .1 s h q o in
-    comes-next (Marked s) i (came (c .args .list .now)) (came (c .loop-equation .list)) (came (c .marked-come .last .list)) d
-    (c .marked-come .ensures .come s e h w (c .loop-equation .inv .0 ∙ q) (d .only)))
+loop-equation-again g c = (
+  c .marked-come .ensures .same ∙ c .loop-equation .inv .0,
+  λ s h q o.
+      let i = c .loop-equation .equation in
+      let (e, w) = at-some (s .equations) i (omega (arith, h .outlined .count)) in
+      let d = c .loop-equation .inv .1 s h q o in
+      comes-next (Marked s) i (came (c .args .list .now)) (came (c .loop-equation .list)) (came (c .marked-come .last .list)) d
+      (c .marked-come .ensures .come s e h w (c .loop-equation .inv .0 ∙ q) (d .only)),
+)
 
 pub returns : need.returns
 returns g c = record {

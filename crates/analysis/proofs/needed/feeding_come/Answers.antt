@@ -1,20 +1,9 @@
-use mathlib.Core.Path.{_≡_, refl, sym, _∙_, ap, subst}
-use mathlib.Core.Bool.{true, false}
-use mathlib.Core.List.{[]}
-use mathlib.Core.Logic.{_≢_}
-use Prim.Native.Nat.{_<_, _≤_}
+use mathlib.Core.Path.{refl, sym, _∙_}
 use native.Mathlib.Omega.{arith}
-use lib.ListN.{length, getD, take}
-use lib.Seq.{length-take-le, getD-set-same, getD-set-other}
-use borrow.Author.Count.{below-more}
-use Rattle.std.specs.declared.option.Option.the-variants.{Some}
-use Rattle.terms.specs.Known.{occursAt}
-use Rattle.analysis.specs.declared.numbers.Parameter.{Parameter}
-use Rattle.analysis.specs.Sites.{Held}
-use Rattle.analysis.specs.Comes.{came, places, Only}
-use Rattle.analysis.specs.Reaches.{MaskOf, Reaches, Marked, Leads, Feeds}
+use Rattle.analysis.specs.Comes.{came}
+use Rattle.analysis.specs.Reaches.{Feeds}
 use Rattle.analysis.proofs.Lists.{at-some}
-use Rattle.analysis.proofs.Firsts.{at-take, comes-none, comes-nothing, comes-next, length-sets}
+use Rattle.analysis.proofs.Firsts.{comes-nothing}
 use Rattle.analysis.proofs.Sited.{low}
 use Rattle.analysis.proofs.Points as p
 use Rattle.analysis.proofs.needed.feeding_come.Needs as need

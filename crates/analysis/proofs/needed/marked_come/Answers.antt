@@ -1,21 +1,7 @@
-use mathlib.Core.Path.{_≡_, refl, sym, _∙_, ap, subst}
-use mathlib.Core.Bool.{true, false}
-use mathlib.Core.List.{[]}
-use mathlib.Core.Logic.{_≢_}
-use Prim.Native.Nat.{_<_, _≤_}
+use mathlib.Core.Path.{refl, _∙_}
 use native.Mathlib.Omega.{arith}
-use lib.ListN.{length, getD, take}
-use lib.Seq.{length-take-le, getD-set-same, getD-set-other}
-use borrow.Author.Count.{below-more}
-use Rattle.std.specs.declared.option.Option.the-variants.{Some}
-use Rattle.terms.specs.Known.{occursAt}
-use Rattle.analysis.specs.declared.numbers.Parameter.{Parameter}
-use Rattle.analysis.specs.Sites.{Held}
-use Rattle.analysis.specs.Comes.{came, places, Only}
-use Rattle.analysis.specs.Reaches.{MaskOf, Reaches, Marked, Leads, Feeds}
+use Rattle.analysis.specs.Comes.{came}
 use Rattle.analysis.proofs.Lists.{at-some}
-use Rattle.analysis.proofs.Firsts.{at-take, comes-none, comes-nothing, comes-next, length-sets}
-use Rattle.analysis.proofs.Sited.{low}
 use Rattle.analysis.proofs.Points as p
 use Rattle.analysis.proofs.needed.marked_come.Needs as need
 
@@ -23,17 +9,20 @@ pub loop-k-holds : need.loop-k-holds
 loop-k-holds g c = (refl, λ s e h w q xs d. d)
 
 pub loop-k-again : need.loop-k-again
-loop-k-again g c = (c .occurring-come-in-loop-k .ensures .same ∙ c .loop-k .inv .0, λ s e h w q xs d.
-    let a = g .G·Algebra .meaning (c .args .alg .now) in
-    let i = c .args .equation in
-    let n = c .arity-count .result in
-    let m = c .arity-count .ensures .is a (c .args .file .now) s e h w in
-    let st = c .body-sites-body .ensures s e h w in
-    let (k, v) = at-some (e .clauses) (c .loop-k .k) (omega (arith, st .count)) in
-    let cs = c .clause-sites-clause .ensures k (st .clauses (c .loop-k .k) k v 0) in
-    let b = c .loop-k .inv .1 s e h w q xs d in
-    p.guards-next s i n e w m (c .loop-k .k) k xs (came (c .loop-k .list)) (came (c .occurring-come-in-loop-k .last .list)) v b
-    (c .occurring-come-in-loop-k .ensures .come s (k .guard) (c .loop-k .inv .0 ∙ q) (cs .guard) (p.guard-marks s i n e w m (c .loop-k .k) k v) (b .only)))
+loop-k-again g c = (
+  c .occurring-come-in-loop-k .ensures .same ∙ c .loop-k .inv .0,
+  λ s e h w q xs d.
+      let a = g .G·Algebra .meaning (c .args .alg .now) in
+      let i = c .args .equation in
+      let n = c .arity-count .result in
+      let m = c .arity-count .ensures .is a (c .args .file .now) s e h w in
+      let st = c .body-sites-body .ensures s e h w in
+      let (k, v) = at-some (e .clauses) (c .loop-k .k) (omega (arith, st .count)) in
+      let cs = c .clause-sites-clause .ensures k (st .clauses (c .loop-k .k) k v 0) in
+      let b = c .loop-k .inv .1 s e h w q xs d in
+      p.guards-next s i n e w m (c .loop-k .k) k xs (came (c .loop-k .list)) (came (c .occurring-come-in-loop-k .last .list)) v b
+      (c .occurring-come-in-loop-k .ensures .come s (k .guard) (c .loop-k .inv .0 ∙ q) (cs .guard) (p.guard-marks s i n e w m (c .loop-k .k) k v) (b .only)),
+)
 
 pub returns : need.returns
 returns g c = record {

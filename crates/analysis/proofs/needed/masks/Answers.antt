@@ -1,21 +1,13 @@
-use mathlib.Core.Path.{_≡_, refl, sym, _∙_, ap, subst}
-use mathlib.Core.Bool.{true, false}
+use mathlib.Core.Path.{refl, sym, _∙_, subst}
 use mathlib.Core.List.{[]}
 use mathlib.Core.Logic.{_≢_}
-use Prim.Native.Nat.{_<_, _≤_}
+use Prim.Native.Nat.{_<_}
 use native.Mathlib.Omega.{arith}
-use lib.ListN.{length, getD, take}
-use lib.Seq.{length-take-le, getD-set-same, getD-set-other}
+use lib.ListN.{length}
+use lib.Seq.{getD-set-same, getD-set-other}
 use borrow.Author.Count.{below-more}
-use Rattle.std.specs.declared.option.Option.the-variants.{Some}
-use Rattle.terms.specs.Known.{occursAt}
-use Rattle.analysis.specs.declared.numbers.Parameter.{Parameter}
-use Rattle.analysis.specs.Sites.{Held}
-use Rattle.analysis.specs.Comes.{came, places, Only}
-use Rattle.analysis.specs.Reaches.{MaskOf, Reaches, Marked, Leads, Feeds}
-use Rattle.analysis.proofs.Lists.{at-some}
-use Rattle.analysis.proofs.Firsts.{at-take, comes-none, comes-nothing, comes-next, length-sets}
-use Rattle.analysis.proofs.Sited.{low}
+use Rattle.analysis.specs.Comes.{came}
+use Rattle.analysis.proofs.Lists.{length-sets}
 use Rattle.analysis.proofs.Points as p
 use Rattle.analysis.proofs.needed.masks.Needs as need
 
@@ -27,12 +19,13 @@ loop-equation-again c =
     let i = c .loop-equation .equation in
     let xs = c .loop-equation .stays in
     let v = c .row .result in
-    let l : i < length xs = omega (arith, c .loop-equation .inv .0) in
-    (length-sets xs i v ∙ c .loop-equation .inv .0,
-    below-more _ _
-    (λ j h. let ne : j ≢ i = λ e. omega arith in
-    subst (p.RowOf (came (c .args .list .now)) j) (sym (getD-set-other xs i j v [] ne)) (c .loop-equation .inv .1 j h))
-    (subst (p.RowOf (came (c .args .list .now)) i) (sym (getD-set-same xs i v [] l)) (c .row .ensures .long, c .row .ensures .told)))
+    let l : i < length xs = omega (arith, c .loop-equation .inv .0) in (
+      length-sets xs i v ∙ c .loop-equation .inv .0,
+      below-more _ _
+          (λ j h. let ne : j ≢ i = λ e. omega arith in
+          subst (p.RowOf (came (c .args .list .now)) j) (sym (getD-set-other xs i j v [] ne)) (c .loop-equation .inv .1 j h))
+          (subst (p.RowOf (came (c .args .list .now)) i) (sym (getD-set-same xs i v [] l)) (c .row .ensures .long, c .row .ensures .told)),
+    )
 
 pub returns : need.returns
 returns c = record { long = c .loop-equation .inv .0; wide = λ i h. c .loop-equation .inv .1 i (omega arith) .0; told = λ i h. c .loop-equation .inv .1 i (omega arith) .1 }

@@ -1,20 +1,12 @@
 use mathlib.Core.Path.{_≡_, refl, sym, _∙_, ap, subst}
-use mathlib.Core.Bool.{true, false}
 use mathlib.Core.List.{[]}
-use mathlib.Core.Logic.{_≢_}
-use Prim.Native.Nat.{_<_, _≤_}
 use native.Mathlib.Omega.{arith}
-use lib.ListN.{length, getD, take}
-use lib.Seq.{length-take-le, getD-set-same, getD-set-other}
-use borrow.Author.Count.{below-more}
+use lib.ListN.{take}
+use lib.Seq.{length-take-le}
 use Rattle.std.specs.declared.option.Option.the-variants.{Some}
-use Rattle.terms.specs.Known.{occursAt}
-use Rattle.analysis.specs.declared.numbers.Parameter.{Parameter}
-use Rattle.analysis.specs.Sites.{Held}
-use Rattle.analysis.specs.Comes.{came, places, Only}
-use Rattle.analysis.specs.Reaches.{MaskOf, Reaches, Marked, Leads, Feeds}
-use Rattle.analysis.proofs.Lists.{at-some}
-use Rattle.analysis.proofs.Firsts.{at-take, comes-none, comes-nothing, comes-next, length-sets}
+use Rattle.analysis.specs.Comes.{came, Only}
+use Rattle.analysis.specs.Reaches.{Reaches}
+use Rattle.analysis.proofs.Firsts.{at-take}
 use Rattle.analysis.proofs.Sited.{low}
 use Rattle.analysis.proofs.Points as p
 use Rattle.analysis.proofs.needed.needed_come.Needs as need
@@ -23,14 +15,17 @@ pub loop-p-holds : need.loop-p-holds
 loop-p-holds g c = (refl, λ s h q b. b)
 
 pub loop-p-again : need.loop-p-again
-loop-p-again g c = (c .all-leading-come .ensures .same ∙ c .loop-p .inv .0, λ s h q b.
-    let l = c .loop-p .list in
-    let x = c .in-Some .p in
-    let (low, is) = c .in-Some .ensures tt in
-    let here = at-take (l .items .now) (l .len) (c .loop-p .k) x low (l .within) ∙ ap Some (sym is) in
-    let d = c .loop-p .inv .1 s h q b in
-    p.follows-next s (c .loop-p .k) (c .args .outline .now .count) (came l) (came (c .all-leading-come .last .list)) x (omega (arith, h .outlined .count)) d here
-    (c .all-leading-come .ensures .come s h (d .only .all (c .loop-p .k) x here .reaches) (c .loop-p .inv .0 ∙ q) (d .only)))
+loop-p-again g c = (
+  c .all-leading-come .ensures .same ∙ c .loop-p .inv .0,
+  λ s h q b.
+      let l = c .loop-p .list in
+      let x = c .in-Some .p in
+      let (low, is) = c .in-Some .ensures tt in
+      let here = at-take (l .items .now) (l .len) (c .loop-p .k) x low (l .within) ∙ ap Some (sym is) in
+      let d = c .loop-p .inv .1 s h q b in
+      p.follows-next s (c .loop-p .k) (c .args .outline .now .count) (came l) (came (c .all-leading-come .last .list)) x (omega (arith, h .outlined .count)) d here
+      (c .all-leading-come .ensures .come s h (d .only .all (c .loop-p .k) x here .reaches) (c .loop-p .inv .0 ∙ q) (d .only)),
+)
 
 pub loop-p-less : need.loop-p-less
 loop-p-less g c =

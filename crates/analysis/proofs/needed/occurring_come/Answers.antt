@@ -1,20 +1,7 @@
-use mathlib.Core.Path.{_≡_, refl, sym, _∙_, ap, subst}
-use mathlib.Core.Bool.{true, false}
-use mathlib.Core.List.{[]}
-use mathlib.Core.Logic.{_≢_}
-use Prim.Native.Nat.{_<_, _≤_}
-use native.Mathlib.Omega.{arith}
-use lib.ListN.{length, getD, take}
-use lib.Seq.{length-take-le, getD-set-same, getD-set-other}
-use borrow.Author.Count.{below-more}
-use Rattle.std.specs.declared.option.Option.the-variants.{Some}
+use mathlib.Core.Path.{refl, _∙_, ap}
 use Rattle.terms.specs.Known.{occursAt}
-use Rattle.analysis.specs.declared.numbers.Parameter.{Parameter}
-use Rattle.analysis.specs.Sites.{Held}
-use Rattle.analysis.specs.Comes.{came, places, Only}
-use Rattle.analysis.specs.Reaches.{MaskOf, Reaches, Marked, Leads, Feeds}
-use Rattle.analysis.proofs.Lists.{at-some}
-use Rattle.analysis.proofs.Firsts.{at-take, comes-none, comes-nothing, comes-next, length-sets}
+use Rattle.analysis.specs.Comes.{came, places}
+use Rattle.analysis.proofs.Firsts.{comes-none}
 use Rattle.analysis.proofs.Sited.{low}
 use Rattle.analysis.proofs.Points as p
 use Rattle.analysis.proofs.needed.occurring_come.Needs as need
@@ -23,10 +10,13 @@ pub loop-index-holds : need.loop-index-holds
 loop-index-holds g c = (refl, λ s t e st re o. comes-none (p.OccursAt (c .args .equation) t) (came (c .args .list .now)) o)
 
 pub loop-index-again : need.loop-index-again
-loop-index-again g c = (c .bring-if .ensures .same ∙ c .loop-index .inv .0, λ s t e st re o.
-    p.tried s (c .args .equation) (c .args .count) (c .loop-index .index) t (c .occurs-test .result) (places (c .loop-index .list)) (came (c .args .list .now)) (came (c .loop-index .list)) (came (c .bring-if .last .list))
-    (c .pre .low) (c .pre .few) (c .loop-index-test .taken) (c .occurs-test .ensures .value ∙ ap (occursAt (c .loop-index .index)) st) (c .loop-index .inv .0 ∙ e) re
-    (c .loop-index .inv .1 s t e st re o) (c .bring-if .ensures .joined (λ y z b q. q)) (c .bring-if .ensures .kept))
+loop-index-again g c = (
+  c .bring-if .ensures .same ∙ c .loop-index .inv .0,
+  λ s t e st re o.
+      p.tried s (c .args .equation) (c .args .count) (c .loop-index .index) t (c .occurs-test .result) (places (c .loop-index .list)) (came (c .args .list .now)) (came (c .loop-index .list)) (came (c .bring-if .last .list))
+      (c .pre .low) (c .pre .few) (c .loop-index-test .taken) (c .occurs-test .ensures .value ∙ ap (occursAt (c .loop-index .index)) st) (c .loop-index .inv .0 ∙ e) re
+      (c .loop-index .inv .1 s t e st re o) (c .bring-if .ensures .joined (λ y z b q. q)) (c .bring-if .ensures .kept),
+)
 
 pub returns : need.returns
 returns g c = record {

@@ -1,8 +1,8 @@
-use mathlib.Core.Path.{_≡_, refl, _∙_}
+use mathlib.Core.Path.{refl, _∙_}
 use Prim.Native.Nat.{_<_}
 use lib.ListN.{length}
 use native.Mathlib.Omega.{arith}
-use Rattle.analysis.proofs.Firsts.{length-sets}
+use Rattle.analysis.proofs.Lists.{length-sets}
 use Rattle.analysis.proofs.Walked.{clause-no, clause-begins, clause-stops, clause-goes, clause-ends}
 use Rattle.analysis.proofs.walk.clause_sites.Needs as need
 
@@ -18,10 +18,13 @@ returns-in-rest-open-occurrence g c = λ k r.
     (c .loop-k .k) (c .loop-k .occurrences) (c .loop-k .next) (c .loop-k .inv .1 k r) (c .loop-k-test .taken) (c .in-rest-open-occurrence .ensures tt .found))
 
 pub loop-k-again : need.loop-k-again
-loop-k-again g c = (length-sets (c .loop-k .occurrences) (c .loop-k .k) (c .in-Some-open-occurrence .occurrence) ∙ c .loop-k .inv .0, λ k r.
-    let l : c .loop-k .k < length (c .loop-k .occurrences) = omega (arith, c .loop-k .inv .0) in
-    clause-goes (g .G·Algebra .meaning (c .args .alg .now)) (c .args .file .now) (c .args .outline .now) k (c .args .at) r (c .in-Some .clause) (c .in-Some .ensures tt .found)
-    (c .loop-k .k) (c .loop-k .occurrences) (c .loop-k .next) (c .loop-k .inv .1 k r) (c .loop-k-test .taken) l (c .in-Some-open-occurrence .occurrence) (c .in-Some-open-occurrence .ensures tt .found))
+loop-k-again g c = (
+  length-sets (c .loop-k .occurrences) (c .loop-k .k) (c .in-Some-open-occurrence .occurrence) ∙ c .loop-k .inv .0,
+  λ k r.
+      let l : c .loop-k .k < length (c .loop-k .occurrences) = omega (arith, c .loop-k .inv .0) in
+      clause-goes (g .G·Algebra .meaning (c .args .alg .now)) (c .args .file .now) (c .args .outline .now) k (c .args .at) r (c .in-Some .clause) (c .in-Some .ensures tt .found)
+      (c .loop-k .k) (c .loop-k .occurrences) (c .loop-k .next) (c .loop-k .inv .1 k r) (c .loop-k-test .taken) l (c .in-Some-open-occurrence .occurrence) (c .in-Some-open-occurrence .ensures tt .found),
+)
 
 pub returns : need.returns
 returns g c = λ k r.
