@@ -4,10 +4,11 @@ use mathlib.Core.List.{List, [], _∷_, _++_, map}
 use Prim.Native.Nat.{ℕ, zero, suc, _+_, _-_, _<_, _≤_}
 use native.Mathlib.Omega.{arith}
 use native.Mathlib.Numerals.{add-one}
-use lib.ListN.{length, getD, take, drop, set}
-use lib.Seq.{drop-cons}
+use lib.ListN.{length, getD, take, drop, set, replicate, take-append-drop}
+use lib.Seq.{drop-cons, length-take-le}
 use Rattle.faults.specs.declared.Reason.{Reason}
 use Rattle.definitions.specs.Reading.{Step, next, stop, Reader, follow, repeated, one-by-one}
+use Rattle.system.specs.Bodies.{padded}
 use Rattle.system.proofs.Lists.{drop-end}
 
 -- what was read before, and the rest
@@ -15,7 +16,7 @@ abbrev pub before : {X : Type 0} → List X → Step (List X) → Step (List X)
 before xs (next ys q) = next (xs ++ ys) q
 before xs (stop r q) = stop r q
 
-snoc : {X : Type 0} (xs : List X) (x : X) (ys : List X) → xs ++ (x ∷ ys) ≡ (xs ++ (x ∷ [])) ++ ys
+pub snoc : {X : Type 0} (xs : List X) (x : X) (ys : List X) → xs ++ (x ∷ ys) ≡ (xs ++ (x ∷ [])) ++ ys
 snoc [] x ys = refl
 snoc (y ∷ xs) x ys = ap (λ zs. y ∷ zs) (snoc xs x ys)
 
@@ -27,7 +28,7 @@ pub begin : {X : Type 0} (m : Step (List X)) → m ≡ before [] m
 begin (next ys q) = refl
 begin (stop r q) = refl
 
-nil : {X : Type 0} (xs : List X) → xs ++ [] ≡ xs
+pub nil : {X : Type 0} (xs : List X) → xs ++ [] ≡ xs
 nil [] = refl
 nil (x ∷ xs) = ap (λ ys. x ∷ ys) (nil xs)
 
@@ -78,3 +79,19 @@ module _ {X Y : Type 0} (f : List ℕ) (r : Y → Reader X) (ys : List Y) where
 
   pub each-fill-end : (xs : List X) (i p : ℕ) → length ys ≤ i → before xs (one-by-one r (drop i ys) f p) ≡ next xs p
   each-fill-end xs i p h = ap (λ w. before xs (one-by-one r w f p)) (drop-end ys i h) ∙ ap (λ w. next w p) (nil xs)
+
+-- zeros behind
+pub zeros-next : (xs : List ℕ) (i n x : ℕ) → drop i xs ≡ replicate (n - i) 0 → i < n → drop (i + 1) (set xs i x) ≡ replicate (n - (i + 1)) 0
+zeros-next xs i n x e h = rw add-one (go xs i (n - i) (n - suc i) e (omega arith))
+  where
+    go : (xs : List ℕ) (i u v : ℕ) → drop i xs ≡ replicate u 0 → u ≡ suc v → drop (suc i) (set xs i x) ≡ replicate v 0
+    go xs i zero v e k = absurd (omega arith)
+    go [] zero (suc u) v e k = let z : _≡_ {A = ℕ} 0 1 = cc in absurd (omega arith)
+    go [] (suc i) (suc u) v e k = let z : _≡_ {A = ℕ} 0 1 = cc in absurd (omega arith)
+    go (y ∷ ys) zero (suc u) v e k = let j : u ≡ v = omega arith in let l : ys ≡ replicate u 0 = cc in l ∙ ap (λ m. replicate m 0) j
+    go (y ∷ ys) (suc i) (suc u) v e k = go ys i (suc u) v e k
+
+pub zeros-end : (xs : List ℕ) (n : ℕ) → n ≤ length xs → drop n xs ≡ replicate (15 - n) 0 → xs ≡ padded (take n xs)
+zeros-end xs n h e =
+    let l : n ≡ length (take n xs) = sym (length-take-le n xs h) in
+    sym (take-append-drop n xs) ∙ ap (λ ys. take n xs ++ ys) e ∙ ap (λ m. take n xs ++ replicate (15 - m) 0) l

@@ -5,3 +5,4 @@ pub mod Lists
 pub mod Chains
 pub mod Behind
 pub mod Records
+pub mod Outlines

@@ -1,6 +1,6 @@
 -- Members of lists.
 use mathlib.Core.Path.{_≡_, refl, ap}
-use mathlib.Core.List.{List, [], _∷_}
+use mathlib.Core.List.{List, [], _∷_, map}
 use Prim.Native.Nat.{ℕ, zero, suc, _<_, _≤_}
 use native.Mathlib.Omega.{arith}
 use lib.ListN.{length, getD, drop}
@@ -22,3 +22,12 @@ drop-end [] zero h = refl
 drop-end [] (suc i) h = refl
 drop-end (x ∷ xs) zero h = absurd (omega arith)
 drop-end (x ∷ xs) (suc i) h = drop-end xs i (omega arith)
+
+pub at-small : {A : Type 0} (xs : List A) (k : ℕ) (x : A) → at xs k ≡ Some x → k < length xs
+at-small [] k x e = let z : _≡_ {A = ℕ} 0 1 = cc in absurd (omega arith)
+at-small (y ∷ xs) zero x e = omega arith
+at-small (y ∷ xs) (suc k) x e = let h : k < length xs = at-small xs k x e in omega arith
+
+pub length-map : {A B : Type 0} (g : A → B) (xs : List A) → length (map g xs) ≡ length xs
+length-map g [] = refl
+length-map g (x ∷ xs) = ap suc (length-map g xs)

@@ -1,12 +1,12 @@
 -- What the answers on bodies and values say as steps.
-use mathlib.Core.List.{List}
-use Prim.Native.Nat.{ℕ}
-use lib.ListN.{take as front}
+use mathlib.Core.List.{List, [], _∷_, _++_}
+use Prim.Native.Nat.{ℕ, _-_}
+use lib.ListN.{length, take as front, replicate}
 use Rattle.std.specs.declared.result.Result.{Result}
 use Rattle.std.specs.declared.result.Result.the-variants.{Ok, Err}
 use Rattle.faults.specs.declared.ReadFault.{ReadFault}
 use Rattle.definitions.specs.Alg.{Alg}
-use Rattle.definitions.specs.Reading.{Step, next, stop, follow, take, repeated}
+use Rattle.definitions.specs.Reading.{Step, next, stop, Reader, follow, take, repeated}
 use Rattle.definitions.specs.ReadSystem.{Header, Scope, readOf, readClause}
 use Rattle.system.specs.declared.bodies.Target.{Target}
 use Rattle.system.specs.declared.bodies.Bodies.{Bodies}
@@ -38,3 +38,12 @@ toldValue (Err e) = stop (e .reason) (e .place)
 abbrev pub toldValues : ℕ → Result Values ReadFault → Step (List ℕ)
 toldValues n (Ok v) = next (front n (v .values)) (v .next)
 toldValues n (Err e) = stop (e .reason) (e .place)
+
+-- the places from which readers in a row read
+abbrev pub placesOf : {X B : Type 0} → (X → Reader B) → List X → List ℕ → ℕ → List ℕ
+placesOf r [] f p = []
+placesOf r (x ∷ xs) f p = p ∷ elim (r x f p) [ next y q ↦ placesOf r xs f q | stop s q ↦ [] ]
+
+-- the values of an instance, with zeros behind them
+abbrev pub padded : List ℕ → List ℕ
+padded vs = vs ++ replicate (15 - length vs) 0

@@ -2,13 +2,13 @@
 ghost use mathlib.Core.Path.{_≡_};
 ghost use mathlib.Core.List.{map};
 ghost use Prim.Native.Nat.{ℕ, suc, _<_, _≤_};
-ghost use lib.ListN.{length};
+ghost use lib.ListN.{length, take as front};
 ghost use Rattle.std.specs.Results.{Cases};
 ghost use Rattle.definitions.specs.Reading.{repeated, one-by-one as each};
 ghost use Rattle.definitions.specs.ReadSystem.{readOf, readTarget, readOccurrence, readClause, readBody, readValueOf};
 ghost use Rattle.system.specs.Steps.{placed, scoped};
 ghost use Rattle.system.specs.Files.{keptHeader};
-ghost use Rattle.system.specs.Bodies.{toldPlace, toldTarget, bodyPlaces, toldBodies, toldValue, toldValues};
+ghost use Rattle.system.specs.Bodies.{toldPlace, toldTarget, bodyPlaces, toldBodies, toldValue, toldValues, placesOf, padded};
 use crate::DEPTH;
 use crate::header::Header;
 use crate::term::Scope;
@@ -218,6 +218,7 @@ pub(crate) fn check_bodies<G: Algebra>(
     requires small { ⌜ length (now bytes) ≤ 65536 ⌝ }
     requires few { ⌜ length (now headers) ≤ 31 ⌝ }
     ensures reads { λ r. ⌜ toldBodies r ≡ placed (each (readBody (meaning (now (alg .entry))) (map keptHeader (now (headers .entry)))) (map keptHeader (now (headers .entry))) (now (bytes .entry)) at) ⌝ }
+    ensures places { λ r. ⌜ Cases r (λ b. front (length (now (headers .entry))) (b .places) ≡ placesOf (readBody (meaning (now (alg .entry))) (map keptHeader (now (headers .entry)))) (map keptHeader (now (headers .entry))) (now (bytes .entry)) at) (λ _. Unit {0}) ⌝ }
 {
     let mut places = [0usize; 31];
     let mut next = at;
@@ -281,6 +282,7 @@ pub(crate) fn read_values<G: Algebra>(
     requires small { ⌜ length (now bytes) ≤ 65536 ⌝ }
     requires few { ⌜ length (now sorts) ≤ 15 ⌝ }
     ensures reads { λ r. ⌜ toldValues (length (now (sorts .entry))) r ≡ each (readValueOf (meaning (now (alg .entry)))) (now (sorts .entry)) (now (bytes .entry)) at ⌝ }
+    ensures zeros { λ r. ⌜ Cases r (λ v. v .values ≡ padded (front (length (now (sorts .entry))) (v .values))) (λ _. Unit {0}) ⌝ }
 {
     let mut values = [0u8; 15];
     let mut next = at;

@@ -5,10 +5,8 @@ ghost use Prim.Native.Nat.{ℕ, _<_, _≤_};
 ghost use lib.ListN.{length};
 ghost use Rattle.std.specs.Results.{Cases};
 ghost use Rattle.definitions.specs.Reading.{ending};
-ghost use Rattle.definitions.specs.ReadSystem.{readSystem, reading};
-ghost use Rattle.system.specs.Steps.{placed};
 ghost use Rattle.system.specs.Files.{keptHeader};
-ghost use Rattle.system.specs.Whole.{restPlaces, toldRest, toldOutline, toldEnd, judged, verdictOf};
+ghost use Rattle.system.specs.Whole.{RestTold, SystemTold, toldEnd, Read};
 use crate::LONGEST;
 use crate::bodies::check_bodies;
 use crate::bodies::read_target;
@@ -31,7 +29,7 @@ fn read_rest<G: Algebra>(
 ) -> Result<Rest, ReadFault>
     requires small { ⌜ length (now bytes) ≤ 65536 ⌝ }
     requires few { ⌜ length (now headers) ≤ 31 ⌝ }
-    ensures reads { λ r. ⌜ toldRest r ≡ restPlaces (meaning (now (alg .entry))) (map keptHeader (now (headers .entry))) (now (bytes .entry)) at ⌝ }
+    ensures reads { λ r. ⌜ RestTold (meaning (now (alg .entry))) (map keptHeader (now (headers .entry))) (now (bytes .entry)) at r ⌝ }
     ensures present { λ r. ⌜ Cases r (λ t. t .start .equation < length (now (headers .entry))) (λ _. Unit {0}) ⌝ }
 {
     let bodies = check_bodies(alg, headers, bytes, at)?;
@@ -59,6 +57,7 @@ fn read_rest<G: Algebra>(
 
 fn read_system<G: Algebra>(alg: &G, bytes: &[u8]) -> Result<Outline, ReadFault>
     requires { ⌜ length (now bytes) ≤ 65536 ⌝ }
+    ensures { λ r. ⌜ SystemTold (meaning (now (alg .entry))) (now (bytes .entry)) r ⌝ }
 {
     let mut reader = BitReader { bytes, at: 0 };
     let Some(count) = reader.next(5) else {
@@ -113,7 +112,9 @@ fn check_ending(bytes: &[u8], at: usize) -> Result<(), ReadFault>
 }
 
 /// Reads the file of a system that fits the algebra.
-pub fn read<G: Algebra>(alg: &G, file: &[u8]) -> Result<Outline, ReadFault> {
+pub fn read<G: Algebra>(alg: &G, file: &[u8]) -> Result<Outline, ReadFault>
+    ensures { λ r. ⌜ Read (meaning (now (alg .entry))) (now (file .entry)) r ⌝ }
+{
     if file.len() == 0 || file.len() > LONGEST {
         return Err(ReadFault {
             reason: Reason::BadLength,
