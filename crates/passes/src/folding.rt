@@ -18,7 +18,12 @@ pub struct Fold {}
 
 // Whether the term at the place is known to be false though nothing is known.
 fn known_false<G: Algebra>(alg: &G, file: &[u8], at: usize) -> bool {
-    match known_value(alg, &Environment::unknown(), View { bytes: file, at }, DEPTH) {
+    match known_value(
+        alg,
+        &Environment::unknown(),
+        View { bytes: file, at },
+        DEPTH,
+    ) {
         Some(value) => value == 0,
         None => false,
     }

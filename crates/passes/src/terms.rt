@@ -62,7 +62,13 @@ fn folded<G: Algebra>(alg: &G, edit: &Edit, term: Term, view: View, depth: u8) -
 }
 
 // The term at the view, which has depth at most `depth`, as the edit changes it.
-pub(crate) fn write_term<G: Algebra>(alg: &G, edit: &Edit, view: View, writer: &mut BitWriter, depth: u8) -> Result<(), Full> {
+pub(crate) fn write_term<G: Algebra>(
+    alg: &G,
+    edit: &Edit,
+    view: View,
+    writer: &mut BitWriter,
+    depth: u8,
+) -> Result<(), Full> {
     if depth == 0 {
         return Err(Full {});
     }

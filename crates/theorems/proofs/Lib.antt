@@ -7,18 +7,18 @@ mod BlocksC
 mod BooleanBack
 mod BooleanForth
 mod Closing
-mod Cut
+pub mod Cut
 mod Enough
 mod Evaluates
 mod ExamplesHold
 mod Expanding
 mod Expands
-mod Fields
+pub mod Fields
 mod FitsC
 mod FitsCut
 mod FitsF
 mod Forms
-mod Forth
+pub mod Forth
 mod Goods
 mod Histories
 mod KeepsC
@@ -28,21 +28,21 @@ mod KeepsR
 mod KeepsU
 mod Knows
 mod Lightness
-mod Listing
+pub mod Listing
 mod Marks
 mod Monotone
 mod Numbers
 mod Packs
-mod PassRules
+pub mod PassRules
 mod Ranges
-mod RangesC
+pub mod RangesC
 mod Reaching
-mod Refit
-mod Repack
+pub mod Refit
+pub mod Repack
 mod RoundStrict
 mod Settled
 mod Shapes
-mod ShapesC
+pub mod ShapesC
 mod Solutions
 mod Sounds
 mod Stable
@@ -54,4 +54,4 @@ mod Tokens
 mod TruthsC
 mod UniqueFiles
 mod Weights
-mod Whole
+pub mod Whole

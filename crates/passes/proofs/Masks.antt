@@ -1,0 +1,88 @@
+-- Masks, and what they keep of a list.
+use mathlib.Core.Path.{_≡_, refl, sym, _∙_, ap, ap₂, subst}
+use mathlib.Core.Bool.{Bool, true, false, false≢true}
+use mathlib.Core.List.{List, [], _∷_, map}
+use Prim.Native.Nat.{ℕ, zero, suc, _+_, _<_}
+use native.Mathlib.Nat.{add-zero}
+use native.Mathlib.Omega.{arith}
+use lib.ListN.{length, getD}
+use Rattle.std.specs.declared.option.Option.the-variants.{None, Some}
+use Rattle.definitions.specs.Lists.{at, mapFrom, strike, place}
+use Rattle.definitions.specs.Fits.{Every}
+
+-- a mask counts only up to the list's length
+pub strike-none : {A : Type 0} (ms : List Bool) (xs : List A) → ((k : ℕ) → k < length xs → getD ms k false ≡ false) → strike ms xs ≡ []
+strike-none [] xs h = refl
+strike-none (m ∷ ms) [] h = refl
+strike-none (true ∷ ms) (x ∷ xs) h = absurd (false≢true (sym (h 0 (omega arith))))
+strike-none (false ∷ ms) (x ∷ xs) h = strike-none ms xs (λ k l. h (suc k) (omega arith))
+
+pub strike-same : {A : Type 0} (ms ns : List Bool) (xs : List A) → ((k : ℕ) → k < length xs → getD ms k false ≡ getD ns k false) → strike ms xs ≡ strike ns xs
+strike-same [] ns xs h = sym (strike-none ns xs (λ k l. sym (h k l)))
+strike-same (m ∷ ms) [] xs h = strike-none (m ∷ ms) xs h
+strike-same (m ∷ ms) (n ∷ ns) [] h = refl
+strike-same (true ∷ ms) (true ∷ ns) (x ∷ xs) h = ap (λ z. x ∷ z) (strike-same ms ns xs (λ k l. h (suc k) (omega arith)))
+strike-same (true ∷ ms) (false ∷ ns) (x ∷ xs) h = absurd (false≢true (sym (h 0 (omega arith))))
+strike-same (false ∷ ms) (true ∷ ns) (x ∷ xs) h = absurd (false≢true (h 0 (omega arith)))
+strike-same (false ∷ ms) (false ∷ ns) (x ∷ xs) h = strike-same ms ns xs (λ k l. h (suc k) (omega arith))
+
+pub strike-all : {A : Type 0} (ms : List Bool) (xs : List A) → ((k : ℕ) → k < length xs → getD ms k false ≡ true) → strike ms xs ≡ xs
+strike-all [] [] h = refl
+strike-all [] (x ∷ xs) h = absurd (false≢true (h 0 (omega arith)))
+strike-all (m ∷ ms) [] h = refl
+strike-all (true ∷ ms) (x ∷ xs) h = ap (λ z. x ∷ z) (strike-all ms xs (λ k l. h (suc k) (omega arith)))
+strike-all (false ∷ ms) (x ∷ xs) h = absurd (false≢true (h 0 (omega arith)))
+
+-- and up to the number
+place-none : (ms : List Bool) (n : ℕ) → ((k : ℕ) → k < n → getD ms k false ≡ false) → place ms n ≡ 0
+place-none [] n h = refl
+place-none (m ∷ ms) zero h = refl
+place-none (true ∷ ms) (suc n) h = absurd (false≢true (sym (h 0 (omega arith))))
+place-none (false ∷ ms) (suc n) h = place-none ms n (λ k l. h (suc k) (omega arith))
+
+pub place-same : (ms ns : List Bool) (n : ℕ) → ((k : ℕ) → k < n → getD ms k false ≡ getD ns k false) → place ms n ≡ place ns n
+place-same [] ns n h = sym (place-none ns n (λ k l. sym (h k l)))
+place-same (m ∷ ms) [] n h = place-none (m ∷ ms) n h
+place-same (m ∷ ms) (l ∷ ns) zero h = refl
+place-same (true ∷ ms) (true ∷ ns) (suc n) h = ap suc (place-same ms ns n (λ k l. h (suc k) (omega arith)))
+place-same (true ∷ ms) (false ∷ ns) (suc n) h = absurd (false≢true (sym (h 0 (omega arith))))
+place-same (false ∷ ms) (true ∷ ns) (suc n) h = absurd (false≢true (h 0 (omega arith)))
+place-same (false ∷ ms) (false ∷ ns) (suc n) h = place-same ms ns n (λ k l. h (suc k) (omega arith))
+
+pub place-all : (ms : List Bool) (n : ℕ) → ((k : ℕ) → k < n → getD ms k false ≡ true) → place ms n ≡ n
+place-all ms zero h = elim ms as (λ z. place z 0 ≡ 0) [ [] ↦ refl | m ∷ ms ↦ refl ]
+place-all [] (suc n) h = absurd (false≢true (h 0 (omega arith)))
+place-all (true ∷ ms) (suc n) h = ap suc (place-all ms n (λ k l. h (suc k) (omega arith)))
+place-all (false ∷ ms) (suc n) h = absurd (false≢true (h 0 (omega arith)))
+
+-- lists member by member
+pub at-there : {A : Type 0} (xs : List A) (k : ℕ) → k < length xs → (x : A) × (at xs k ≡ Some x)
+at-there [] k h = absurd (omega arith)
+at-there (x ∷ xs) zero h = (x, refl)
+at-there (x ∷ xs) (suc k) h = at-there xs k (omega arith)
+
+pub at-low : {A : Type 0} (xs : List A) (k : ℕ) (x : A) → at xs k ≡ Some x → k < length xs
+at-low [] k x e = let z : _≡_ {A = ℕ} 0 1 = cc in absurd (omega arith)
+at-low (y ∷ xs) zero x e = omega arith
+at-low (y ∷ xs) (suc k) x e = let h : k < length xs = at-low xs k x e in omega arith
+
+pub map-same : {A B : Type 0} (f g : A → B) (xs : List A) → Every (λ x. f x ≡ g x) xs → map f xs ≡ map g xs
+map-same f g [] h = refl
+map-same f g (x ∷ xs) h = ap₂ (λ y ys. y ∷ ys) (h .0) (map-same f g xs (h .1))
+
+pub mapFrom-same : {A B : Type 0} (n : ℕ) (f g : ℕ → A → B) (xs : List A) → ((k : ℕ) (x : A) → at xs k ≡ Some x → f (n + k) x ≡ g (n + k) x) → mapFrom n f xs ≡ mapFrom n g xs
+mapFrom-same n f g [] h = refl
+mapFrom-same n f g (x ∷ xs) h =
+    let first : f n x ≡ g n x = subst (λ m. f m x ≡ g m x) (add-zero n) (h 0 x refl) in
+    ap₂ (λ y ys. y ∷ ys) first (mapFrom-same (suc n) f g xs (λ k y e. subst (λ m. f m y ≡ g m y) (let q : n + suc k ≡ suc n + k = omega arith in q) (h (suc k) y e)))
+
+pub mapFrom-map : {A B : Type 0} (n : ℕ) (f : ℕ → A → B) (g : A → B) (xs : List A) → ((k : ℕ) (x : A) → at xs k ≡ Some x → f (n + k) x ≡ g x) → mapFrom n f xs ≡ map g xs
+mapFrom-map n f g [] h = refl
+mapFrom-map n f g (x ∷ xs) h =
+    let first : f n x ≡ g x = subst (λ m. f m x ≡ g x) (add-zero n) (h 0 x refl) in
+    ap₂ (λ y ys. y ∷ ys) first (mapFrom-map (suc n) f g xs (λ k y e. subst (λ m. f m y ≡ g y) (let q : n + suc k ≡ suc n + k = omega arith in q) (h (suc k) y e)))
+
+pub getD-map : {A B : Type 0} (f : A → B) (xs : List A) (k : ℕ) (d : A) → getD (map f xs) k (f d) ≡ f (getD xs k d)
+getD-map f [] k d = refl
+getD-map f (x ∷ xs) zero d = refl
+getD-map f (x ∷ xs) (suc k) d = getD-map f xs k d
