@@ -1,16 +1,17 @@
-//! System files: reading them, the terms in them as views, and the value of a term.
+//! System files: reading them, and walking through accepted ones.
 mod bodies;
 pub mod header;
 mod headers;
 pub mod instance;
-pub mod occur;
 mod outline;
 pub mod reading;
 mod rest;
 mod term;
-pub mod value;
-pub mod view;
 pub mod walk;
+
+pub use terms::occur;
+pub use terms::value;
+pub use terms::view;
 
 /// The greatest depth of a term; a term without parts has depth 1.
 pub const DEPTH: u8 = 32;

@@ -2,10 +2,10 @@
 ghost use Prim.Native.Nat.{_<_, _≤_};
 use crate::DEPTH;
 use crate::reading::Outline;
-use crate::view::View;
-use crate::view::end_of_term;
 use algebra::Algebra;
 use bits::BitReader;
+use terms::view::View;
+use terms::view::end_of_term;
 
 /// A body's opening: the place of its h, its clause count, and the place of the first clause.
 #[derive(Clone, Copy)]
