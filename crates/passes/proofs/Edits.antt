@@ -66,26 +66,16 @@ module _ (a : Alg) (ss : List ℕ) (c : Change) where
     editeds-folded none = refl
     editeds-folded (more t ts) = ap₂ more (edited-folded t) (editeds-folded ts)
 
--- only the sorts of replaced parameters count
-module _ (a : Alg) (b : Bool) (c : Change) (ss us : List ℕ) (h : (n : ℕ) → kindFrom ss c n ≡ kindFrom us c n) where
-  rekinded-sorts : (b : Bool) (k : Kind) → rekinded b ss c k ≡ rekinded b us c k
-  rekinded-sorts true k = refl
-  rekinded-sorts false k = kind-same (λ _. Unit {0}) (kindFrom ss c) (kindFrom us c) (λ n _. h n) k (anything k)
-    where
-      anything : (k : Kind) → OnParameters (λ _. Unit {0}) k
-      anything (parameter n) = tt
-      anything (variable n) = tt
-      anything (value s v) = tt
-      anything (operation o) = tt
-      anything not = tt
-      anything and = tt
-      anything or = tt
-      anything equal = tt
+-- only the sorts of the parameters that occur count
+module _ (a : Alg) (b : Bool) (c : Change) (ss us : List ℕ) (P : ℕ → Type 0) (h : (n : ℕ) → P n → kindFrom ss c n ≡ kindFrom us c n) where
+  rekinded-sorts : (b : Bool) (k : Kind) → OnParameters P k → rekinded b ss c k ≡ rekinded b us c k
+  rekinded-sorts true k p = refl
+  rekinded-sorts false k p = kind-same P (kindFrom ss c) (kindFrom us c) h k p
 
   mutual
-    pub edited-sorts : (t : Term) → edited t (record { fold = b; change = c; sorts = ss }) a ≡ edited t (record { fold = b; change = c; sorts = us }) a
-    edited-sorts (node k ts) = ap₂ (λ q qs. editedAs a k q (foldsTo b a (node k ts)) qs) (rekinded-sorts b k) (editeds-sorts ts)
+    pub edited-sorts : (t : Term) → OnKinds t (OnParameters P) → edited t (record { fold = b; change = c; sorts = ss }) a ≡ edited t (record { fold = b; change = c; sorts = us }) a
+    edited-sorts (node k ts) p = ap₂ (λ q qs. editedAs a k q (foldsTo b a (node k ts)) qs) (rekinded-sorts b k (p .0)) (editeds-sorts ts (p .1))
 
-    editeds-sorts : (ts : Terms) → editeds ts (record { fold = b; change = c; sorts = ss }) a ≡ editeds ts (record { fold = b; change = c; sorts = us }) a
-    editeds-sorts none = refl
-    editeds-sorts (more t ts) = ap₂ more (edited-sorts t) (editeds-sorts ts)
+    editeds-sorts : (ts : Terms) → OnAll ts (OnParameters P) → editeds ts (record { fold = b; change = c; sorts = ss }) a ≡ editeds ts (record { fold = b; change = c; sorts = us }) a
+    editeds-sorts none p = refl
+    editeds-sorts (more t ts) p = ap₂ more (edited-sorts t (p .0)) (editeds-sorts ts (p .1))

@@ -5,3 +5,6 @@ pub mod PlannedR
 pub mod PlannedU
 pub mod PlannedF
 pub mod PlannedC
+pub mod Writing
+pub mod Narrowing
+pub mod TermWriting

@@ -17,7 +17,7 @@ use Rattle.theorems.proofs.Refit.{strike-every}
 use Rattle.theorems.proofs.Listing.{every-with}
 use Rattle.passes.specs.declared.plan.Change.{Change}
 use Rattle.passes.specs.declared.plan.Plan.{Plan}
-use Rattle.passes.specs.declared.terms.Edit.{Edit}
+use Rattle.passes.specs.declared.editing.Edit.{Edit}
 use Rattle.passes.specs.Plans.{kindFrom, edited, changeAt, keptOnes, newNumber, editOf, plannedOccurrence, plannedClause, clauseStays, plannedBare, plannedFull, plannedEquation}
 use Rattle.passes.proofs.Masks.{map-same, getD-map}
 use Rattle.passes.proofs.Edits.{edited-replaced}

@@ -1,11 +1,11 @@
 -- Masks, and what they keep of a list.
 use mathlib.Core.Path.{_≡_, refl, sym, _∙_, ap, ap₂, subst}
-use mathlib.Core.Bool.{Bool, true, false, false≢true}
+use mathlib.Core.Bool.{Bool, true, false, cond, false≢true}
 use mathlib.Core.List.{List, [], _∷_, map}
-use Prim.Native.Nat.{ℕ, zero, suc, _+_, _<_}
+use Prim.Native.Nat.{ℕ, zero, suc, _+_, _<_, _≤_}
 use native.Mathlib.Nat.{add-zero}
 use native.Mathlib.Omega.{arith}
-use lib.ListN.{length, getD}
+use lib.ListN.{length, getD, drop}
 use Rattle.std.specs.declared.option.Option.the-variants.{None, Some}
 use Rattle.definitions.specs.Lists.{at, mapFrom, strike, place}
 use Rattle.definitions.specs.Fits.{Every}
@@ -86,3 +86,51 @@ pub getD-map : {A B : Type 0} (f : A → B) (xs : List A) (k : ℕ) (d : A) → 
 getD-map f [] k d = refl
 getD-map f (x ∷ xs) zero d = refl
 getD-map f (x ∷ xs) (suc k) d = getD-map f xs k d
+
+-- masks place by place
+place-zero : (ms : List Bool) → place ms 0 ≡ 0
+place-zero [] = refl
+place-zero (m ∷ ms) = refl
+
+pub place-more : (ms : List Bool) (i : ℕ) → place ms (suc i) ≡ place ms i + cond (getD ms i false) 1 0
+place-more [] i = refl
+place-more (true ∷ ms) zero = ap suc (place-zero ms)
+place-more (false ∷ ms) zero = place-zero ms
+place-more (true ∷ ms) (suc i) = let h : place ms (suc i) ≡ place ms i + cond (getD ms i false) 1 0 = place-more ms i in omega arith
+place-more (false ∷ ms) (suc i) = place-more ms i
+
+pub place-low : (ms : List Bool) (n : ℕ) → place ms n ≤ n
+place-low [] n = omega arith
+place-low (m ∷ ms) zero = omega arith
+place-low (true ∷ ms) (suc n) = let h : place ms n ≤ n = place-low ms n in omega arith
+place-low (false ∷ ms) (suc n) = let h : place ms n ≤ n = place-low ms n in omega arith
+
+pub strike-long : {A : Type 0} (ms : List Bool) (xs : List A) → length (strike ms xs) ≡ place ms (length xs)
+strike-long [] xs = refl
+strike-long (m ∷ ms) [] = refl
+strike-long (true ∷ ms) (x ∷ xs) = ap suc (strike-long ms xs)
+strike-long (false ∷ ms) (x ∷ xs) = strike-long ms xs
+
+pub strike-empty : {A : Type 0} (ms : List Bool) → strike {A = A} ms [] ≡ []
+strike-empty [] = refl
+strike-empty (m ∷ ms) = refl
+
+pub strike-step : {A : Type 0} (d : A) (ms : List Bool) (xs : List A) (i : ℕ) → i < length xs →
+    strike (drop i ms) (drop i xs) ≡ cond (getD ms i false) (getD xs i d ∷ strike (drop (suc i) ms) (drop (suc i) xs)) (strike (drop (suc i) ms) (drop (suc i) xs))
+strike-step d ms [] i h = absurd (omega arith)
+strike-step d [] (x ∷ xs) zero h = refl
+strike-step d (true ∷ ms) (x ∷ xs) zero h = refl
+strike-step d (false ∷ ms) (x ∷ xs) zero h = refl
+strike-step d [] (x ∷ xs) (suc i) h = refl
+strike-step d (m ∷ ms) (x ∷ xs) (suc i) h = strike-step d ms xs i (omega arith)
+
+pub every-getD : {A : Type 0} (P : A → Type 0) (d : A) (xs : List A) (k : ℕ) → k < length xs → Every P xs → P (getD xs k d)
+every-getD P d [] k h e = absurd (omega arith)
+every-getD P d (x ∷ xs) zero h e = e .0
+every-getD P d (x ∷ xs) (suc k) h e = every-getD P d xs k (omega arith) (e .1)
+
+pub drop-end : {A : Type 0} (xs : List A) (n : ℕ) → length xs ≤ n → drop n xs ≡ []
+drop-end [] zero h = refl
+drop-end [] (suc n) h = refl
+drop-end (x ∷ xs) zero h = absurd (omega arith)
+drop-end (x ∷ xs) (suc n) h = drop-end xs n (omega arith)

@@ -19,7 +19,7 @@ use Rattle.theorems.proofs.ShapesC.{every-at, at-map, terms-long}
 use Rattle.theorems.proofs.Listing.{every-with}
 use Rattle.passes.specs.declared.plan.Change.{Change}
 use Rattle.passes.specs.declared.plan.Plan.{Plan}
-use Rattle.passes.specs.declared.terms.Edit.{Edit}
+use Rattle.passes.specs.declared.editing.Edit.{Edit}
 use Rattle.passes.specs.Plans.{edited, changeAt, keptOnes, newNumber, plannedOccurrence, plannedClause, clauseStays, plannedBare, plannedFull, plannedEquation, planned}
 use Rattle.passes.specs.Finds.{FoldChange, FoldPlan}
 use Rattle.passes.proofs.Masks.{strike-all, mapFrom-map, map-same}

@@ -32,6 +32,7 @@ pub record FoldChange (a : Alg) (e : Equation) (c : Change) : Type 0 where
   pub kept : c .kept ≡ true
   pub bare : c .bare ≡ isFalse (known a [] (e .h))
   pub stays : AllStay e c
+  pub values : NoneReplaced c
 
 pub record FoldPlan (a : Alg) (s : System) (p : Plan) : Type 0 where
   pub fold : p .fold ≡ true

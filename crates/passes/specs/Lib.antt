@@ -1,2 +1,5 @@
 pub mod Plans
 pub mod Finds
+pub mod Narrow
+pub mod Heads
+pub mod Writes

@@ -13,7 +13,7 @@ use Rattle.definitions.specs.Terms.{onParameter, truthTerm}
 use Rattle.definitions.specs.Passes.{foldedAs}
 use Rattle.passes.specs.declared.plan.Change.{Change}
 use Rattle.passes.specs.declared.plan.Plan.{Plan}
-use Rattle.passes.specs.declared.terms.Edit.{Edit}
+use Rattle.passes.specs.declared.editing.Edit.{Edit}
 
 -- what becomes of a parameter: its value in its place, or its new number
 abbrev pub kindFrom : List ℕ → Change → ℕ → Kind

@@ -1,10 +1,12 @@
 //! Passes: each reads a system file and writes the file of a system with the same verdict.
 pub mod constants;
+mod editing;
+mod fields;
 pub mod folding;
+mod heading;
 mod plan;
 pub mod redundant;
 mod rewrite;
-mod terms;
 pub mod unreachable_equations;
 
 use algebra::Algebra;

@@ -1,4 +1,9 @@
 //! What a pass makes of each equation and each parameter.
+ghost use mathlib.Core.Path.{_≡_};
+ghost use Prim.Native.Nat.{_≤_};
+ghost use lib.ListN.{length};
+ghost use Rattle.definitions.specs.Lists.{place};
+ghost use Rattle.passes.specs.Plans.{newNumber};
 
 /// What becomes of an equation.
 #[derive(Clone, Copy)]
@@ -44,10 +49,15 @@ impl Plan {
 }
 
 // How many of the first n are true: the new number of one that stays.
-pub(crate) fn number_among(stays: &[bool], n: usize) -> u8 {
+pub(crate) fn number_among(stays: &[bool], n: usize) -> u8
+    requires inside { ⌜ n ≤ length (now stays) ⌝ }
+    requires few { ⌜ n ≤ 31 ⌝ }
+    ensures number { λ r. ⌜ r ≡ place (now (stays .entry)) n ⌝ }
+    ensures low { λ r. ⌜ r ≤ n ⌝ }
+{
     let mut count = 0u8;
-    for i in 0..n.min(stays.len()) {
-        if stays[i] && count < 255 {
+    for i in 0..n {
+        if stays[i] {
             count += 1;
         }
     }
@@ -55,10 +65,14 @@ pub(crate) fn number_among(stays: &[bool], n: usize) -> u8 {
 }
 
 // The new number of the equation numbered n.
-pub(crate) fn renumbered(plan: &Plan, n: u8) -> u8 {
+pub(crate) fn renumbered(plan: &Plan, n: u8) -> u8
+    requires { ⌜ n ≤ 31 ⌝ }
+    ensures number { λ r. ⌜ r ≡ newNumber (now (plan .entry)) n ⌝ }
+    ensures low { λ r. ⌜ r ≤ n ⌝ }
+{
     let mut count = 0u8;
     for i in 0..n {
-        if i < 31 && plan.equations[i as usize].kept {
+        if plan.equations[i as usize].kept {
             count += 1;
         }
     }

@@ -1,151 +1,72 @@
 //! Writing the file of a system as a plan changes it.
+use crate::editing::Edit;
+use crate::editing::folds_to;
+use crate::editing::write_term;
+use crate::fields::put;
+use crate::fields::write_value;
+use crate::heading::write_header;
+use crate::heading::write_start;
 use crate::plan::Plan;
-use crate::plan::number_among;
 use crate::plan::renumbered;
-use crate::terms::Edit;
-use crate::terms::write_term;
-use crate::terms::write_value;
 use algebra::Algebra;
 use bits::BitWriter;
-use bits::Full;
 use faults::PassFault;
 use faults::Reason;
 use system::DEPTH;
 use system::LONGEST;
-use system::header::Header;
-use system::header::Quantifier;
-use system::header::Sign;
 use system::reading::Outline;
-use system::value::Environment;
-use system::value::known_value;
 use system::view::View;
 use system::walk::end_of_clause;
 use system::walk::open_body;
 use system::walk::open_clause;
 use system::walk::open_occurrence;
 
-// A header without the parameters that do not stay, and without quantified variables if it becomes bare.
-fn write_header(
-    writer: &mut BitWriter,
-    header: Header,
-    stays: &[bool; 15],
-    bare: bool,
-) -> Result<(), Full> {
-    let sign = match header.sign {
-        Sign::Least => 0,
-        Sign::Greatest => 1,
-    };
-    writer.put(sign, 1)?;
-    writer.put(number_among(stays, header.count as usize) as u32, 4)?;
-    for k in 0..header.count {
-        if stays[k as usize] {
-            writer.put(header.sorts[k as usize] as u32, 4)?;
-        }
-    }
-    if bare {
-        return writer.put(0, 2);
-    }
-    writer.put(header.number as u32, 2)?;
-    for k in 0..header.number {
-        let quantified = header.quantified[k as usize];
-        let quantifier = match quantified.quantifier {
-            Quantifier::Exists => 0,
-            Quantifier::ForAll => 1,
-        };
-        writer.put(quantifier, 1)?;
-        writer.put(quantified.sort as u32, 4)?;
-    }
-    Ok(())
+// Where the reading and the writing have come to.
+#[derive(Clone, Copy)]
+pub struct Places {
+    pub next: usize,
+    pub at: usize,
 }
 
-// An occurrence without the arguments of parameters that do not stay, and the place behind it.
-fn write_occurrence<G: Algebra>(
-    alg: &G,
-    outline: &Outline,
-    plan: &Plan,
-    edit: &Edit,
-    file: &[u8],
-    at: usize,
-    writer: &mut BitWriter,
-) -> Result<usize, Full> {
-    let Some(occurrence) = open_occurrence(alg, outline, file, at) else {
-        return Err(Full {});
+// An occurrence without the arguments of parameters that do not stay.
+fn write_occurrence<G: Algebra>(alg: &G, outline: &Outline, plan: &Plan, edit: &Edit, file: &[u8], places: Places, bytes: &mut [u8]) -> Places {
+    let Some(occurrence) = open_occurrence(alg, outline, file, places.next) else {
+        return places;
     };
-    writer.put(renumbered(plan, occurrence.target) as u32, 5)?;
+    let mut at = put(bytes, places.at, renumbered(plan, occurrence.target) as u32, 5);
     let stays = plan.equations[occurrence.target as usize].stays;
     for k in 0..occurrence.count {
         if stays[k as usize] {
-            write_term(
-                alg,
-                edit,
-                View {
-                    bytes: file,
-                    at: occurrence.arguments[k as usize],
-                },
-                writer,
-                DEPTH,
-            )?;
+            at = write_term(alg, edit, View { bytes: file, at: occurrence.arguments[k as usize] }, DEPTH, bytes, at);
         }
     }
-    Ok(occurrence.next)
+    Places { next: occurrence.next, at }
 }
 
-// A clause, and the place behind it.
-fn write_clause<G: Algebra>(
-    alg: &G,
-    outline: &Outline,
-    plan: &Plan,
-    edit: &Edit,
-    file: &[u8],
-    at: usize,
-    writer: &mut BitWriter,
-) -> Result<usize, Full> {
-    let Some(clause) = open_clause(alg, file, at) else {
-        return Err(Full {});
+// A clause.
+fn write_clause<G: Algebra>(alg: &G, outline: &Outline, plan: &Plan, edit: &Edit, file: &[u8], places: Places, bytes: &mut [u8]) -> Places {
+    let Some(clause) = open_clause(alg, file, places.next) else {
+        return places;
     };
-    write_term(
-        alg,
-        edit,
-        View {
-            bytes: file,
-            at: clause.guard,
-        },
-        writer,
-        DEPTH,
-    )?;
-    writer.put(clause.count as u32 - 1, 3)?;
-    let mut next = clause.next;
+    let at = write_term(alg, edit, View { bytes: file, at: clause.guard }, DEPTH, bytes, places.at);
+    let at = put(bytes, at, clause.count as u32 - 1, 3);
+    let mut places = Places { next: clause.next, at };
     for _k in 0..clause.count {
-        next = write_occurrence(alg, outline, plan, edit, file, next, writer)?;
+        places = write_occurrence(alg, outline, plan, edit, file, places, bytes);
     }
-    Ok(next)
+    places
 }
 
-// Whether the clause at the place goes: its guard is known false though nothing is known.
+// Whether the clause at the place goes: its guard folds to false.
 fn clause_goes<G: Algebra>(alg: &G, edit: &Edit, file: &[u8], at: usize) -> bool {
-    if !edit.fold {
-        return false;
-    }
-    match known_value(
-        alg,
-        &Environment::unknown(),
-        View { bytes: file, at },
-        DEPTH,
-    ) {
+    match folds_to(alg, edit.fold, View { bytes: file, at }, DEPTH) {
         Some(value) => value == 0,
         None => false,
     }
 }
 
 // How many of the clauses stay.
-fn count_clauses<G: Algebra>(
-    alg: &G,
-    outline: &Outline,
-    edit: &Edit,
-    file: &[u8],
-    at: usize,
-    count: u8,
-) -> Option<u8> {
+fn count_clauses<G: Algebra>(alg: &G, outline: &Outline, edit: &Edit, file: &[u8], at: usize, count: u8) -> Option<u8> {
     let mut next = at;
     let mut stay = 0u8;
     for _k in 0..count {
@@ -158,143 +79,87 @@ fn count_clauses<G: Algebra>(
 }
 
 // The clauses that stay.
-fn write_clauses<G: Algebra>(
-    alg: &G,
-    outline: &Outline,
-    plan: &Plan,
-    edit: &Edit,
-    file: &[u8],
-    at: usize,
-    count: u8,
-    writer: &mut BitWriter,
-) -> Result<(), Full> {
-    let mut next = at;
+fn write_clauses<G: Algebra>(alg: &G, outline: &Outline, plan: &Plan, edit: &Edit, file: &[u8], count: u8, places: Places, bytes: &mut [u8]) -> usize {
+    let mut places = places;
     for _k in 0..count {
-        if clause_goes(alg, edit, file, next) {
-            let Some(end) = end_of_clause(alg, outline, file, next) else {
-                return Err(Full {});
+        if clause_goes(alg, edit, file, places.next) {
+            let Some(end) = end_of_clause(alg, outline, file, places.next) else {
+                return places.at;
             };
-            next = end;
+            places = Places { next: end, at: places.at };
         } else {
-            next = write_clause(alg, outline, plan, edit, file, next, writer)?;
+            places = write_clause(alg, outline, plan, edit, file, places, bytes);
         }
     }
-    Ok(())
+    places.at
 }
 
 // The body of the equation numbered i.
-fn write_body<G: Algebra>(
-    alg: &G,
-    outline: &Outline,
-    plan: &Plan,
-    file: &[u8],
-    i: usize,
-    writer: &mut BitWriter,
-) -> Result<(), Full> {
+fn write_body<G: Algebra>(alg: &G, outline: &Outline, plan: &Plan, file: &[u8], i: usize, bytes: &mut [u8], at: usize) -> usize {
     if i >= 31 {
-        return Err(Full {});
+        return at;
     }
     let change = plan.equations[i];
     if change.bare {
-        write_value(writer, 0, 0)?;
-        return writer.put(0, 4);
+        let at = write_value(bytes, at, 0, 0);
+        return put(bytes, at, 0, 4);
     }
     let Some(body) = open_body(alg, file, outline.bodies[i]) else {
-        return Err(Full {});
+        return at;
     };
-    let edit = Edit {
-        fold: plan.fold,
-        change,
-        sorts: outline.headers[i].sorts,
-    };
-    write_term(
-        alg,
-        &edit,
-        View {
-            bytes: file,
-            at: body.h,
-        },
-        writer,
-        DEPTH,
-    )?;
+    let sorts = outline.headers[i].sorts;
+    let edit = Edit { fold: plan.fold, change, sorts };
+    let at = write_term(alg, &edit, View { bytes: file, at: body.h }, DEPTH, bytes, at);
     let Some(stay) = count_clauses(alg, outline, &edit, file, body.next, body.count) else {
-        return Err(Full {});
+        return at;
     };
-    writer.put(stay as u32, 4)?;
-    write_clauses(
-        alg,
-        outline,
-        plan,
-        &edit,
-        file,
-        body.next,
-        body.count,
-        writer,
-    )
+    let at = put(bytes, at, stay as u32, 4);
+    write_clauses(alg, outline, plan, &edit, file, body.count, Places { next: body.next, at }, bytes)
 }
 
-// The start, without the values of parameters that do not stay.
-fn write_start(outline: &Outline, plan: &Plan, writer: &mut BitWriter) -> Result<(), Full> {
-    let start = outline.start;
-    writer.put(renumbered(plan, start.equation) as u32, 5)?;
-    let stays = plan.equations[start.equation as usize].stays;
-    for k in 0..outline.headers[start.equation as usize].count {
-        if stays[k as usize] {
-            writer.put(start.values[k as usize] as u32, 8)?;
-        }
-    }
-    Ok(())
-}
-
-// The file of the system as the plan changes it.
-fn write_system<G: Algebra>(
-    alg: &G,
-    outline: &Outline,
-    plan: &Plan,
-    file: &[u8],
-    writer: &mut BitWriter,
-) -> Result<(), Full> {
-    writer.put(renumbered(plan, outline.count) as u32, 5)?;
+fn write_headers(outline: &Outline, plan: &Plan, bytes: &mut [u8], at: usize) -> usize {
+    let mut at = at;
     for i in 0..outline.count as usize {
         let change = plan.equations[i];
         if change.kept {
-            write_header(writer, outline.headers[i], &change.stays, change.bare)?;
+            at = write_header(outline.headers[i], &change, bytes, at);
         }
     }
-    for i in 0..outline.count as usize {
-        if plan.equations[i].kept {
-            write_body(alg, outline, plan, file, i, writer)?;
-        }
-    }
-    write_start(outline, plan, writer)
+    at
 }
 
-// The file of the changed system in a buffer of its own, and its length.
-fn draft<G: Algebra>(
-    alg: &G,
-    outline: &Outline,
-    plan: &Plan,
-    file: &[u8],
-    buffer: &mut [u8],
-) -> Result<usize, Full> {
-    let mut writer = BitWriter {
-        bytes: buffer,
-        at: 0,
-    };
-    write_system(alg, outline, plan, file, &mut writer)?;
-    Ok(writer.close())
+fn write_bodies<G: Algebra>(alg: &G, outline: &Outline, plan: &Plan, file: &[u8], bytes: &mut [u8], at: usize) -> usize {
+    let mut at = at;
+    for i in 0..outline.count as usize {
+        if plan.equations[i].kept {
+            at = write_body(alg, outline, plan, file, i, bytes, at);
+        }
+    }
+    at
+}
+
+// The file of the system as the plan changes it.
+fn write_system<G: Algebra>(alg: &G, outline: &Outline, plan: &Plan, file: &[u8], bytes: &mut [u8]) -> usize {
+    let at = put(bytes, 0, renumbered(plan, outline.count) as u32, 5);
+    let at = write_headers(outline, plan, bytes, at);
+    let at = write_bodies(alg, outline, plan, file, bytes, at);
+    write_start(outline, plan, bytes, at)
+}
+
+// The file of the changed system in a buffer of its own, and its length; none where it does not fit.
+fn draft<G: Algebra>(alg: &G, outline: &Outline, plan: &Plan, file: &[u8], buffer: &mut [u8]) -> Option<usize> {
+    let at = write_system(alg, outline, plan, file, buffer);
+    if at > 8 * buffer.len() {
+        return None;
+    }
+    let mut writer = BitWriter { bytes: buffer, at };
+    Some(writer.close())
 }
 
 /// Writes the file of the system as the plan changes it to the front of `out`, and tells its length.
-pub(crate) fn write_planned<G: Algebra>(
-    alg: &G,
-    outline: &Outline,
-    plan: &Plan,
-    file: &[u8],
-    out: &mut [u8],
-) -> Result<usize, PassFault> {
+pub(crate) fn write_planned<G: Algebra>(alg: &G, outline: &Outline, plan: &Plan, file: &[u8], out: &mut [u8]) -> Result<usize, PassFault> {
     let mut buffer = [0u8; LONGEST];
-    let Ok(len) = draft(alg, outline, plan, file, &mut buffer) else {
+    let Some(len) = draft(alg, outline, plan, file, &mut buffer) else {
         return Err(PassFault::Declined(Reason::ResultTooLong));
     };
     if len > out.len() || len > LONGEST {
