@@ -35,6 +35,9 @@ VariablesNarrow qs = Every (λ (q : Quantified). q .sort < 16) qs
 abbrev pub HeadNarrow : Header → Type 0
 HeadNarrow h = Every (λ s. s < 16) (h .sorts) × VariablesNarrow (h .quantified)
 
--- the start has one value for each parameter of its equation
-abbrev pub StartFits : System → Type 0
-StartFits s = (e : Equation) × (at (s .equations) (s .start) ≡ Some e) × (length (e .sorts) ≡ length (s .values)) × (length (e .sorts) ≤ 15)
+-- the outline tells the start of the system, with one value for each parameter of its equation
+pub record StartOf (s : System) (o : Outline) : Type 0 where
+  pub start : o .start .equation ≡ s .start
+  pub values : take (getD (o .headers) (s .start) noHeader .count) (o .start .values) ≡ s .values
+  where
+    noHeader : KeptHeader

@@ -19,6 +19,7 @@ use crate::fields::put;
 use crate::fields::write_value;
 use crate::plan::Change;
 use crate::plan::number_among;
+use crate::plan::replacement;
 use algebra::Algebra;
 use system::value::Environment;
 use system::value::known_value;
@@ -47,7 +48,7 @@ fn write_parameter(edit: &Edit, n: u8, bytes: &mut [u8], at: usize) -> usize
         let at = put(bytes, at, 0, 3);
         return put(bytes, at, n as u32, 4);
     }
-    match edit.change.values[n as usize] {
+    match replacement(&edit.change.values, n) {
         Some(value) => write_value(bytes, at, edit.sorts[n as usize], value),
         None => {
             let at = put(bytes, at, 0, 3);

@@ -8,6 +8,7 @@ ghost use Rattle.definitions.specs.Systems.{value as valueKind};
 ghost use Rattle.definitions.specs.Written.{kindBits};
 ghost use Rattle.definitions.specs.Fits.{Every};
 ghost use Rattle.passes.specs.Writes.{Wrote};
+use crate::plan::Change;
 use bits::BitWriter;
 
 // A place behind the end of every buffer.
@@ -35,15 +36,15 @@ pub(crate) fn write_value(bytes: &mut [u8], at: usize, sort: u8, value: u8) -> u
     put(bytes, at, value as u32, 8)
 }
 
-// The numbers that stay, as fields of one width.
-pub(crate) fn write_staying(bytes: &mut [u8], at: usize, numbers: &[u8], stays: &[bool], width: u32) -> usize
+// The numbers of the parameters that stay, as fields of one width.
+pub(crate) fn write_staying(bytes: &mut [u8], at: usize, numbers: &[u8], change: &Change, width: u32) -> usize
     requires short { ⌜ length (now bytes) ≤ 65536 ⌝ }
-    requires inside { ⌜ length (now numbers) ≤ length (now stays) ⌝ }
-    ensures { λ r. ⌜ (width ≤ 32 → Every (λ v. v < 2 ^ width) (now (numbers .entry)) → Wrote (flat (map (bitsOf width) (strike (now (stays .entry)) (now (numbers .entry))))) (now (bytes .entry)) at (now (bytes .exit)) r) ⌝ }
+    requires few { ⌜ length (now numbers) ≤ 15 ⌝ }
+    ensures { λ r. ⌜ (width ≤ 32 → Every (λ v. v < 2 ^ width) (now (numbers .entry)) → Wrote (flat (map (bitsOf width) (strike (now (change .entry) .stays) (now (numbers .entry))))) (now (bytes .entry)) at (now (bytes .exit)) r) ⌝ }
 {
     let mut place = at;
     for k in 0..numbers.len() {
-        if stays[k] {
+        if change.stays[k] {
             place = put(bytes, place, numbers[k] as u32, width);
         }
     }

@@ -1,14 +1,12 @@
 //! Writing headers and the start without the parameters that do not stay.
-ghost use mathlib.Core.List.{List, map};
+ghost use mathlib.Core.List.{map};
 ghost use Prim.Native.Nat.{ℕ, _<_, _≤_};
 ghost use lib.ListN.{length};
 ghost use Rattle.definitions.specs.Lists.{flat};
-ghost use Rattle.definitions.specs.Alg.{Alg};
 ghost use Rattle.definitions.specs.Systems.{System};
 ghost use Rattle.definitions.specs.Written.{signBits, quantifierBits};
 ghost use Rattle.system.specs.Files.{keptSign, keptQuantifier, keptQuantified, keptHeader};
-ghost use Rattle.system.specs.Whole.{Outlined};
-ghost use Rattle.passes.specs.Heads.{oneBits, variableBits, headBits, startBits, VariablesNarrow, HeadNarrow, StartFits};
+ghost use Rattle.passes.specs.Heads.{oneBits, variableBits, headBits, startBits, VariablesNarrow, HeadNarrow, StartOf};
 ghost use Rattle.passes.specs.Writes.{Wrote};
 use crate::fields::put;
 use crate::fields::write_staying;
@@ -62,8 +60,9 @@ fn write_variables(header: Header, bytes: &mut [u8], at: usize) -> usize
     ensures { λ r. ⌜ (VariablesNarrow (keptHeader header .quantified) → Wrote (variableBits (keptHeader header .quantified)) (now (bytes .entry)) at (now (bytes .exit)) r) ⌝ }
 {
     let quantified = header.quantified;
-    let at = put(bytes, at, header.number as u32, 2);
-    write_each(&quantified[0..header.number as usize], bytes, at)
+    let variables = &quantified[0..header.number as usize];
+    let at = put(bytes, at, variables.len() as u32, 2);
+    write_each(variables, bytes, at)
 }
 
 /// A header without the parameters that do not stay, and without quantified variables if it becomes bare.
@@ -72,10 +71,10 @@ pub(crate) fn write_header(header: Header, change: &Change, bytes: &mut [u8], at
     ensures { λ r. ⌜ (HeadNarrow (keptHeader header) → Wrote (headBits (keptHeader header) (now (change .entry) .stays) (now (change .entry) .bare)) (now (bytes .entry)) at (now (bytes .exit)) r) ⌝ }
 {
     let sorts = header.sorts;
-    let count = header.count as usize;
+    let sorts = &sorts[0..header.count as usize];
     let at = write_sign(header.sign, bytes, at);
-    let at = put(bytes, at, number_among(&change.stays, count) as u32, 4);
-    let at = write_staying(bytes, at, &sorts[0..count], &change.stays, 4);
+    let at = put(bytes, at, number_among(&change.stays, sorts.len()) as u32, 4);
+    let at = write_staying(bytes, at, sorts, change, 4);
     if change.bare {
         put(bytes, at, 0, 2)
     } else {
@@ -86,12 +85,13 @@ pub(crate) fn write_header(header: Header, change: &Change, bytes: &mut [u8], at
 /// The start, without the values of parameters that do not stay.
 pub(crate) fn write_start(outline: &Outline, plan: &Plan, bytes: &mut [u8], at: usize) -> usize
     requires { ⌜ length (now bytes) ≤ 65536 ⌝ }
-    ensures { λ r. ⌜ ((a : Alg) (f : List ℕ) (s : System) → Outlined a f s (now (outline .entry)) → StartFits s → Wrote (startBits (now (plan .entry)) s) (now (bytes .entry)) at (now (bytes .exit)) r) ⌝ }
+    ensures { λ r. ⌜ ((s : System) → StartOf s (now (outline .entry)) → Wrote (startBits (now (plan .entry)) s) (now (bytes .entry)) at (now (bytes .exit)) r) ⌝ }
 {
     let start = outline.start;
+    let header = outline.headers[start.equation as usize];
+    let change = plan.equations[start.equation as usize];
     let values = start.values;
-    let count = outline.headers[start.equation as usize].count as usize;
-    let stays = plan.equations[start.equation as usize].stays;
+    let values = &values[0..header.count as usize];
     let at = put(bytes, at, renumbered(plan, start.equation) as u32, 5);
-    write_staying(bytes, at, &values[0..count], &stays, 8)
+    write_staying(bytes, at, values, &change, 8)
 }

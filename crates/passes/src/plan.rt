@@ -1,7 +1,8 @@
 //! What a pass makes of each equation and each parameter.
 ghost use mathlib.Core.Path.{_≡_};
 ghost use Prim.Native.Nat.{_≤_};
-ghost use lib.ListN.{length};
+ghost use lib.ListN.{length, getD};
+ghost use Rattle.std.specs.declared.option.Option.the-variants.{None};
 ghost use Rattle.definitions.specs.Lists.{place};
 ghost use Rattle.passes.specs.Plans.{newNumber};
 
@@ -45,6 +46,17 @@ impl Plan {
             fold: false,
             equations: [Change::none(); 31],
         }
+    }
+}
+
+// The value put in the place of the parameter numbered n.
+pub(crate) fn replacement(values: &[Option<u8>], n: u8) -> Option<u8>
+    ensures { λ r. ⌜ r ≡ getD (now (values .entry)) n None ⌝ }
+{
+    if (n as usize) < values.len() {
+        values[n as usize]
+    } else {
+        None
     }
 }
 
