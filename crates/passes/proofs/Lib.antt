@@ -7,4 +7,9 @@ pub mod PlannedF
 pub mod PlannedC
 pub mod Writing
 pub mod Narrowing
+pub mod FieldWriting
+pub mod KindWriting
+pub mod Sorts
+pub mod HeadWriting
+pub mod ClauseWriting
 pub mod TermWriting

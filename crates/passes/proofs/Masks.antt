@@ -4,8 +4,9 @@ use mathlib.Core.Bool.{Bool, true, false, cond, false≢true}
 use mathlib.Core.List.{List, [], _∷_, map}
 use Prim.Native.Nat.{ℕ, zero, suc, _+_, _<_, _≤_}
 use native.Mathlib.Nat.{add-zero}
+use native.Mathlib.Numerals.{add-one}
 use native.Mathlib.Omega.{arith}
-use lib.ListN.{length, getD, drop}
+use lib.ListN.{length, getD, drop, replicate}
 use Rattle.std.specs.declared.option.Option.the-variants.{None, Some}
 use Rattle.definitions.specs.Lists.{at, mapFrom, strike, place}
 use Rattle.definitions.specs.Fits.{Every}
@@ -88,7 +89,7 @@ getD-map f (x ∷ xs) zero d = refl
 getD-map f (x ∷ xs) (suc k) d = getD-map f xs k d
 
 -- masks place by place
-place-zero : (ms : List Bool) → place ms 0 ≡ 0
+pub place-zero : (ms : List Bool) → place ms 0 ≡ 0
 place-zero [] = refl
 place-zero (m ∷ ms) = refl
 
@@ -134,3 +135,20 @@ drop-end [] zero h = refl
 drop-end [] (suc n) h = refl
 drop-end (x ∷ xs) zero h = absurd (omega arith)
 drop-end (x ∷ xs) (suc n) h = drop-end xs n (omega arith)
+
+pub count-true : (ms : List Bool) (i n : ℕ) → n ≡ place ms i → getD ms i false ≡ true → n + 1 ≡ place ms (i + 1)
+count-true ms i n e t = ap (λ m. m + 1) e ∙ sym (place-more ms i ∙ ap (λ (b : Bool). place ms i + cond b 1 0) t) ∙ ap (place ms) (sym (add-one i))
+
+pub count-false : (ms : List Bool) (i n : ℕ) → n ≡ place ms i → getD ms i false ≡ false → n ≡ place ms (i + 1)
+count-false ms i n e t = e ∙ sym (place-more ms i ∙ ap (λ (b : Bool). place ms i + cond b 1 0) t ∙ add-zero (place ms i)) ∙ ap (place ms) (sym (add-one i))
+
+pub getD-behind : {A : Type 0} (xs : List A) (n : ℕ) (d : A) → length xs ≤ n → d ≡ getD xs n d
+getD-behind [] n d h = refl
+getD-behind (x ∷ xs) zero d h = absurd (omega arith)
+getD-behind (x ∷ xs) (suc n) d h = getD-behind xs n d (omega arith)
+
+-- a list of one thing alone
+pub getD-replicate : {A : Type 0} (n k : ℕ) (x : A) → getD (replicate n x) k x ≡ x
+getD-replicate zero k x = refl
+getD-replicate (suc n) zero x = refl
+getD-replicate (suc n) (suc k) x = getD-replicate n k x

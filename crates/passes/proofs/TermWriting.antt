@@ -11,10 +11,13 @@ use Rattle.definitions.specs.Systems.{Kind, value, Term, Terms, node, none, mor
 use Rattle.definitions.specs.Written.{kindBits, termBits}
 use Rattle.definitions.specs.Passes.{sortOf}
 use Rattle.theorems.proofs.Listing.{none-some, some-inj}
-use Rattle.terms.specs.Shown.{cons}
+use Rattle.terms.specs.declared.view.Parts.the-variants.{Zero, One, Two, Three}
+use Rattle.terms.specs.declared.view.Term.{Term as Read}
+use Rattle.terms.specs.declared.view.Term.the-variants.{Parameter, Variable, Value, Operation, Not, And, Or, Equal}
+use Rattle.terms.specs.Shown.{cons, partsOf, termOf}
 use Rattle.passes.specs.declared.editing.Edit.{Edit}
 use Rattle.passes.specs.Plans.{rekinded, foldsTo, editedAs, edited, editeds}
-use Rattle.passes.specs.Narrow.{NarrowKind, Narrow, AllNarrow}
+use Rattle.passes.specs.Narrow.{NarrowKind, Narrow, AllNarrow, headOf}
 use Rattle.passes.specs.Writes.{Wrote}
 use Rattle.passes.proofs.Writing.{wrote-none, wrote-then, wrote-as, wrote-last}
 
@@ -27,6 +30,17 @@ cons-some : (o : Option Term) (os : Option Terms) (ts : Terms) → cons o os ≡
 cons-some None os ts e = none-some ts e
 cons-some (Some t) None ts e = none-some ts e
 cons-some (Some t) (Some us) ts e = (t, us, refl, refl, some-inj (more t us) ts e)
+
+-- a term as read is of its kind
+pub parts-read : (a : Alg) (d : ℕ) (r : Read) → (o : Option Terms) × (termOf a d r ≡ mapped (node (headOf r)) o)
+parts-read a d (Parameter n) = (Some none, refl)
+parts-read a d (Variable n) = (Some none, refl)
+parts-read a d (Value s v) = (Some none, refl)
+parts-read a d (Operation o ps) = (partsOf a d ps, refl)
+parts-read a d (Not x) = (partsOf a d (One x), refl)
+parts-read a d (And x y) = (partsOf a d (Two x y), refl)
+parts-read a d (Or x y) = (partsOf a d (Two x y), refl)
+parts-read a d (Equal x y) = (partsOf a d (Two x y), refl)
 
 abbrev rowBits : Terms → List ℕ
 rowBits ts = flat (folds ts (λ k parts. kindBits k ++ flat parts))

@@ -1,13 +1,11 @@
 -- The bits of a planned system outside its bodies.
-use mathlib.Core.Path.{_≡_}
 use mathlib.Core.List.{List, [], _∷_, _++_, map}
 use mathlib.Core.Bool.{Bool, cond}
-use Prim.Native.Nat.{ℕ, _<_, _≤_}
+use Prim.Native.Nat.{ℕ, _<_}
 use lib.ListN.{length}
-use Rattle.std.specs.declared.option.Option.the-variants.{Some}
-use Rattle.definitions.specs.Lists.{at, flat, strike}
+use Rattle.definitions.specs.Lists.{flat, strike}
 use Rattle.definitions.specs.Bits.{bits}
-use Rattle.definitions.specs.Systems.{Quantified, Equation, System}
+use Rattle.definitions.specs.Systems.{Quantified, System}
 use Rattle.definitions.specs.Written.{signBits, quantifierBits}
 use Rattle.definitions.specs.ReadSystem.{Header}
 use Rattle.definitions.specs.Fits.{Every}
@@ -34,10 +32,3 @@ VariablesNarrow qs = Every (λ (q : Quantified). q .sort < 16) qs
 
 abbrev pub HeadNarrow : Header → Type 0
 HeadNarrow h = Every (λ s. s < 16) (h .sorts) × VariablesNarrow (h .quantified)
-
--- the outline tells the start of the system, with one value for each parameter of its equation
-pub record StartOf (s : System) (o : Outline) : Type 0 where
-  pub start : o .start .equation ≡ s .start
-  pub values : take (getD (o .headers) (s .start) noHeader .count) (o .start .values) ≡ s .values
-  where
-    noHeader : KeptHeader

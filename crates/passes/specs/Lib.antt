@@ -3,3 +3,4 @@ pub mod Finds
 pub mod Narrow
 pub mod Heads
 pub mod Writes
+pub mod Copies

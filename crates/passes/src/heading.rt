@@ -1,12 +1,17 @@
 //! Writing headers and the start without the parameters that do not stay.
-ghost use mathlib.Core.List.{map};
+ghost use mathlib.Core.Path.{_≡_};
+ghost use mathlib.Core.List.{List, map};
 ghost use Prim.Native.Nat.{ℕ, _<_, _≤_};
 ghost use lib.ListN.{length};
-ghost use Rattle.definitions.specs.Lists.{flat};
-ghost use Rattle.definitions.specs.Systems.{System};
+ghost use Rattle.std.specs.declared.option.Option.the-variants.{Some};
+ghost use Rattle.definitions.specs.Lists.{at as equationAt, flat};
+ghost use Rattle.definitions.specs.Alg.{Alg};
+ghost use Rattle.definitions.specs.Systems.{Equation, System};
 ghost use Rattle.definitions.specs.Written.{signBits, quantifierBits};
+ghost use Rattle.definitions.specs.Fits.{Every};
 ghost use Rattle.system.specs.Files.{keptSign, keptQuantifier, keptQuantified, keptHeader};
-ghost use Rattle.passes.specs.Heads.{oneBits, variableBits, headBits, startBits, VariablesNarrow, HeadNarrow, StartOf};
+ghost use Rattle.system.specs.Whole.{Outlined};
+ghost use Rattle.passes.specs.Heads.{oneBits, variableBits, headBits, startBits, VariablesNarrow, HeadNarrow};
 ghost use Rattle.passes.specs.Writes.{Wrote};
 use crate::fields::put;
 use crate::fields::write_staying;
@@ -85,7 +90,7 @@ pub(crate) fn write_header(header: Header, change: &Change, bytes: &mut [u8], at
 /// The start, without the values of parameters that do not stay.
 pub(crate) fn write_start(outline: &Outline, plan: &Plan, bytes: &mut [u8], at: usize) -> usize
     requires { ⌜ length (now bytes) ≤ 65536 ⌝ }
-    ensures { λ r. ⌜ ((s : System) → StartOf s (now (outline .entry)) → Wrote (startBits (now (plan .entry)) s) (now (bytes .entry)) at (now (bytes .exit)) r) ⌝ }
+    ensures { λ r. ⌜ ((a : Alg) (f : List ℕ) (s : System) (e : Equation) → Outlined a f s (now (outline .entry)) → equationAt (s .equations) (s .start) ≡ Some e → length (e .sorts) ≡ length (s .values) → Every (λ v. v < 256) (s .values) → Wrote (startBits (now (plan .entry)) s) (now (bytes .entry)) at (now (bytes .exit)) r) ⌝ }
 {
     let start = outline.start;
     let header = outline.headers[start.equation as usize];

@@ -1,9 +1,11 @@
 //! Passes: each reads a system file and writes the file of a system with the same verdict.
+mod clauses;
 pub mod constants;
 mod editing;
 mod fields;
 pub mod folding;
 mod heading;
+mod places;
 mod plan;
 pub mod redundant;
 mod rewrite;

@@ -11,5 +11,5 @@ use Rattle.passes.proofs.fields.write_staying.Given as given
 abbrev pub Inv-loop-k : given.InvT-loop-k
 Inv-loop-k l =
     l .width ≤ 32 → Every (λ v. v < 2 ^ l .width) (l .numbers) → (h : List ℕ) (r : ℕ) →
-    Wrote (flat (map (bits (l .width)) (strike (drop (l .k) (l .stays)) (drop (l .k) (l .numbers))))) (l .bytes) (l .place) h r →
-    Wrote (flat (map (bits (l .width)) (strike (l .stays) (l .numbers)))) (l .entry .bytes) (l .at) h r
+    Wrote (flat (map (bits (l .width)) (strike (drop (l .k) (l .change .stays)) (drop (l .k) (l .numbers))))) (l .bytes) (l .place) h r →
+    Wrote (flat (map (bits (l .width)) (strike (l .change .stays) (l .numbers)))) (l .entry .bytes) (l .at) h r

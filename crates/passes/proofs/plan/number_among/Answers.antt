@@ -1,18 +1,36 @@
-use borrow.Author.Needs.{needs}
+use native.Mathlib.Omega.{arith}
+use mathlib.Core.Path.{_≡_, sym, ap, _∙_}
+use Prim.Native.Nat.{_≤_}
+use Rattle.definitions.specs.Lists.{place}
+use Rattle.passes.proofs.Masks.{place-zero, place-low, count-true, count-false}
 use Rattle.passes.proofs.plan.number_among.Needs as need
+use Rattle.passes.proofs.plan.number_among.Needs.{then-stays-i, else-stays-i}
 
--- src/plan.rt:59:5
 pub loop-i-holds : need.loop-i-holds
-loop-i-holds c = ?
+loop-i-holds c = sym (place-zero (c .args .stays .now))
 
--- src/plan.rt:61:13
 pub add-count : need.add-count
-add-count c = ?
+add-count c =
+    let ms = c .args .stays .now in
+    let i = c .loop-i .i in
+    let e : c .loop-i .count ≡ place ms i = c .loop-i .inv in
+    let l : place ms i ≤ i = place-low ms i in
+    record { fits = omega arith }
 
--- src/plan.rt:59:5
 pub loop-i-again : need.loop-i-again
-loop-i-again c = ?
+loop-i-again c =
+    let ms = c .args .stays .now in
+    let i = c .loop-i .i in
+    elim (c .if-stays-i .came) [
+      | then-stays-i w ↦ w .count-is ∙ count-true ms i (c .loop-i .count) (c .loop-i .inv) (w .if-stays-i .taken)
+      | else-stays-i w ↦ w .count-is ∙ count-false ms i (c .loop-i .count) (c .loop-i .inv) (w .if-stays-i .left)
+    ]
 
--- src/plan.rt:52:1
 pub returns : need.returns
-returns c = ?
+returns c =
+    let ms = c .args .stays .now in
+    let i = c .loop-i .i in
+    let e : c .loop-i .count ≡ place ms i = c .loop-i .inv in
+    let l : place ms i ≤ i = place-low ms i in
+    let n : i ≡ c .args .n = omega arith in
+    record { number = e ∙ ap (place ms) n; low = omega arith }
