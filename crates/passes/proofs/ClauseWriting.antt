@@ -4,20 +4,25 @@ use mathlib.Core.Bool.{Bool, true, false, cond}
 use mathlib.Core.List.{List, [], _∷_, _++_, map}
 use Prim.Native.Nat.{ℕ, zero, suc, _+_, _-_, _<_, _≤_}
 use native.Mathlib.Omega.{arith}
+use native.Mathlib.Nat.{add-zero}
 use lib.ListN.{length, length-map}
 use Rattle.std.proofs.shelf.Tests.{cond-true, cond-false}
+use Rattle.std.specs.declared.option.Option.the-variants.{None, Some}
 use Rattle.definitions.specs.Lists.{flat, strike, keep}
 use Rattle.definitions.specs.Alg.{Alg}
 use Rattle.definitions.specs.Bits.{bits}
 use Rattle.definitions.specs.Systems.{Term, Occurrence, Clause}
-use Rattle.definitions.specs.Reading.{Step, next, stop, Reader, follow, repeated}
+use Rattle.definitions.specs.Reading.{Step, next, stop, Reader, follow, take, repeated}
+use Rattle.definitions.specs.ReadSystem.{Scope, Header, Sorted, greatestDepth, readTerm, readOf, readOccurrence, readClause}
 use Rattle.definitions.specs.Written.{termBits, occurrenceBits, clauseBits}
 use Rattle.definitions.specs.Fits.{Every}
 use Rattle.theorems.proofs.Cut.{map-twice}
-use Rattle.terms.proofs.Laws.{followed}
+use Rattle.terms.specs.Shapes.{what, standing}
+use Rattle.terms.proofs.Laws.{followed, term-stands}
 use Rattle.passes.specs.declared.plan.Plan.{Plan}
 use Rattle.passes.specs.declared.editing.Edit.{Edit}
 use Rattle.passes.specs.Plans.{edited, changeAt, newNumber, plannedOccurrence, plannedClause, clauseStays}
+use Rattle.passes.specs.Copies.{stayingBits}
 use Rattle.passes.specs.Writes.{Wrote}
 use Rattle.passes.proofs.Writing.{wrote-none, wrote-then, wrote-as}
 
@@ -86,14 +91,57 @@ left-end {X} {r} {P} {b} {n} {f} {p} {q} {g} {place} l e =
     let d = row-over r f p (l .rest) q (subst (λ (k : ℕ). repeated r k f p ≡ next (l .rest) q) e (l .reads)) in
     (d .1, l .completes g place (subst (λ (xs : List X). Wrote (flat (map b xs)) g place g place) (sym (d .0)) (wrote-none g place)))
 
--- the bits of a clause that stays, or none
-module _ (p : Plan) (x : Edit) (a : Alg) where
-  abbrev pub stayingBits : Clause → List ℕ
-  stayingBits c = cond (clauseStays p x a c) (clauseBits (plannedClause p x a c)) []
+-- how many of a row that is read are to be counted
+pub record Tally {X : Type 0} (r : Reader X) (s : X → Bool) (n : ℕ) (f : List ℕ) (p q count total : ℕ) : Type 0 where
+  pub rest : List X
+  pub reads : repeated r n f p ≡ next rest q
+  pub sum : total ≡ count + length (keep s rest)
 
-  pub staying-all : (cs : List Clause) → flat (map stayingBits cs) ≡ flat (map (λ c. clauseBits (plannedClause p x a c)) (keep (clauseStays p x a) cs))
+pub tally-begin : {X : Type 0} (r : Reader X) (s : X → Bool) (n : ℕ) (f : List ℕ) (p q : ℕ) (xs : List X) → repeated r n f p ≡ next xs q → Tally r s n f p q 0 (length (keep s xs))
+tally-begin r s n f p q xs e = record { rest = xs; reads = e; sum = (let z : length (keep s xs) ≡ 0 + length (keep s xs) = omega arith in z) }
+
+pub tally-more : {X : Type 0} {r : Reader X} {s : X → Bool} {m n : ℕ} {f : List ℕ} {p p′ q count count′ total : ℕ} → Tally r s m f p q count total → m ≡ suc n →
+    ((x : X) (t : ℕ) → r f p ≡ next x t → (p′ ≡ t) × (count′ ≡ count + cond (s x) 1 0)) → Tally r s n f p′ q count′ total
+tally-more {X} {r} {s} {m} {n} {f} {p} {p′} {q} {count} {count′} {total} l e step =
+    let d = split-row r n f p (l .rest) q (subst (λ (k : ℕ). repeated r k f p ≡ next (l .rest) q) e (l .reads)) in
+    let one = step (d .first) (d .between) (d .one) in
+    record {
+      rest = d .others;
+      reads = ap (repeated r n f) (one .0) ∙ d .more;
+      sum = l .sum ∙ ap (λ (xs : List X). count + length (keep s xs)) (d .all) ∙ go (s (d .first)) (d .first) (keep s (d .others)) count ∙ ap (λ k. k + length (keep s (d .others))) (sym (one .1));
+    }
+  where
+    go : (b : Bool) (x : X) (xs : List X) (k : ℕ) → k + length (elim b as (λ _. List X) [ true ↦ x ∷ xs | false ↦ xs ]) ≡ k + cond b 1 0 + length xs
+    go true x xs k = omega arith
+    go false x xs k = omega arith
+
+pub tally-end : {X : Type 0} {r : Reader X} {s : X → Bool} {n : ℕ} {f : List ℕ} {p q count total : ℕ} → Tally r s n f p q count total → n ≡ 0 → total ≡ count
+tally-end {X} {r} {s} {n} {f} {p} {q} {count} l e =
+    let d = row-over r f p (l .rest) q (subst (λ (k : ℕ). repeated r k f p ≡ next (l .rest) q) e (l .reads)) in
+    l .sum ∙ ap (λ (xs : List X). count + length (keep s xs)) (d .0) ∙ add-zero count
+
+-- the guard of a clause that is read stands where the clause does
+pub guard-stands : (a : Alg) (hs : List Header) (c : Scope) (f : List ℕ) (p : ℕ) (k : Clause) (q : ℕ) → length f ≤ 65536 → readClause a hs c f p ≡ next k q → standing a 32 f p ≡ Some (k .guard)
+guard-stands a hs c f p k q short e =
+    let last : Term → List Occurrence → ℕ → Step Clause = λ g os v. next (record { guard = g; occurrences = os }) v in
+    let d = followed (readOf a c 0 f p) (λ g t. follow (take 3 f t) (λ n u. follow (repeated (readOccurrence a hs c) (suc n) f u) (last g))) k q e in
+    let b = followed (take 3 f (d .1 .0)) (λ n u. follow (repeated (readOccurrence a hs c) (suc n) f u) (last (d .0))) k q (d .1 .1 .1) in
+    let w = followed (repeated (readOccurrence a hs c) (suc (b .0)) f (b .1 .0)) (last (d .0)) k q (b .1 .1 .1) in
+    let h : next (record { guard = d .0; occurrences = w .0 }) (w .1 .0) ≡ next k q = w .1 .1 .1 in
+    let same : _≡_ {A = Clause} (record { guard = d .0; occurrences = w .0 }) k = cc in
+    let r = followed (readTerm a c greatestDepth (Some 0) f p) (λ (x : Sorted) u. next (x .the-term) u) (d .0) (d .1 .0) (d .1 .1 .0) in
+    let l : next (r .0 .the-term) (r .1 .0) ≡ next (d .0) (d .1 .0) = r .1 .1 .1 in
+    let t : r .0 .the-term ≡ d .0 = cc in
+    ap what (term-stands a c f short greatestDepth (Some 0) p (r .0) (r .1 .0) (r .1 .1 .0)) ∙ ap Some (t ∙ ap (λ (z : Clause). z .guard) same)
+
+-- the clauses that stay
+module _ (p : Plan) (x : Edit) (a : Alg) (hs : List Header) (f : List ℕ) where
+  abbrev stayBits : Clause → List ℕ
+  stayBits c = stayingBits a hs p x f c
+
+  pub staying-all : (cs : List Clause) → flat (map stayBits cs) ≡ flat (map (λ c. clauseBits (plannedClause p x a c)) (keep (clauseStays p x a) cs))
   staying-all [] = refl
-  staying-all (c ∷ cs) = go (clauseStays p x a c) (flat (map stayingBits cs)) (keep (clauseStays p x a) cs) (staying-all cs)
+  staying-all (c ∷ cs) = go (clauseStays p x a c) (flat (map stayBits cs)) (keep (clauseStays p x a) cs) (staying-all cs)
     where
       go : (b : Bool) (bs : List ℕ) (ks : List Clause) → bs ≡ flat (map (λ c. clauseBits (plannedClause p x a c)) ks) →
           cond b (clauseBits (plannedClause p x a c)) [] ++ bs ≡ flat (map (λ c. clauseBits (plannedClause p x a c)) (elim b as (λ _. List Clause) [ true ↦ c ∷ ks | false ↦ ks ]))

@@ -1,6 +1,7 @@
 -- Parts of a body that are read, written as a plan changes them.
 use mathlib.Core.Path.{_≡_}
-use mathlib.Core.List.{List, map}
+use mathlib.Core.List.{List, [], map}
+use mathlib.Core.Bool.{cond}
 use Prim.Native.Nat.{ℕ, _≤_}
 use lib.ListN.{length, getD}
 use Rattle.std.specs.declared.option.Option.the-variants.{Some}
@@ -41,6 +42,13 @@ module _ (a : Alg) (hs : List Header) (p : Plan) (x : Edit) (f : List ℕ) where
   abbrev pub ClauseCopied : ℕ → List ℕ → ℕ → List ℕ → Places → Type 0
   ClauseCopied at before place after r = (c : Scope) (k : Clause) (q : ℕ) → length f ≤ 65536 → readClause a hs c f at ≡ next k q → ClauseNarrow x k →
       Copied (clauseBits (plannedClause p x a k)) q before place after r
+
+  -- the bits of a clause that stays, or none
+  abbrev pub stayingBits : Clause → List ℕ
+  stayingBits k = cond (clauseStays p x a k) (clauseBits (plannedClause p x a k)) []
+
+  abbrev pub StayingCopied : ℕ → List ℕ → ℕ → List ℕ → Places → Type 0
+  StayingCopied at before place after r = (c : Scope) (k : Clause) (q : ℕ) → length f ≤ 65536 → readClause a hs c f at ≡ next k q → ClauseNarrow x k → Copied (stayingBits k) q before place after r
 
   abbrev pub ClausesCopied : ℕ → ℕ → List ℕ → ℕ → List ℕ → ℕ → Type 0
   ClausesCopied n at before place after r = (c : Scope) (cs : List Clause) (q : ℕ) → length f ≤ 65536 → repeated (readClause a hs c) n f at ≡ next cs q → Every (ClauseNarrow x) cs →

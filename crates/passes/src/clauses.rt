@@ -1,7 +1,7 @@
 //! Writing clauses and occurrences as a plan changes them, straight from the file that is read.
 ghost use mathlib.Core.Path.{_≡_};
 ghost use mathlib.Core.List.{List, map};
-ghost use mathlib.Core.Bool.{true, not as flip};
+ghost use mathlib.Core.Bool.{cond, not as flip};
 ghost use Prim.Native.Nat.{ℕ, _<_, _≤_};
 ghost use lib.ListN.{length};
 ghost use Rattle.std.specs.declared.option.Option.the-variants.{None, Some};
@@ -16,7 +16,7 @@ ghost use Rattle.terms.specs.Shapes.{standing};
 ghost use Rattle.system.specs.Whole.{keptHeaders};
 ghost use Rattle.passes.specs.Plans.{foldsTo, edited, clauseStays};
 ghost use Rattle.passes.specs.Narrow.{Narrow};
-ghost use Rattle.passes.specs.Copies.{Placed, OccurrenceCopied, OccurrencesCopied, ClauseCopied, ClausesCopied};
+ghost use Rattle.passes.specs.Copies.{Placed, OccurrenceCopied, OccurrencesCopied, ClauseCopied, StayingCopied, ClausesCopied};
 ghost use Rattle.passes.specs.Writes.{Wrote};
 use crate::editing::Edit;
 use crate::editing::folds_to;
@@ -99,40 +99,56 @@ fn clause_stays<G: Algebra>(alg: &G, edit: &Edit, file: &[u8], at: usize) -> boo
     }
 }
 
-// How many of the clauses stay.
-pub(crate) fn count_clauses<G: Algebra>(alg: &G, outline: &Outline, edit: &Edit, file: &[u8], count: u8, at: usize) -> u8
-    ensures low { λ r. ⌜ r ≤ count ⌝ }
-    ensures count { λ r. ⌜ ((c : Scope) (cs : List Clause) (q : ℕ) → length (now (file .entry)) ≤ 65536 → repeated (readClause (meaning (now (alg .entry))) (keptHeaders (now (outline .entry))) c) count (now (file .entry)) at ≡ step cs q → (p : Plan) → r ≡ length (keep (clauseStays p (now (edit .entry)) (meaning (now (alg .entry)))) cs)) ⌝ }
+// The clause at the place if it stays; else nothing is written.
+fn write_staying_clause<G: Algebra>(alg: &G, outline: &Outline, plan: &Plan, edit: &Edit, file: &[u8], next: usize, bytes: &mut [u8], at: usize) -> Places
+    requires { ⌜ length (now bytes) ≤ 65536 ⌝ }
+    ensures { λ r. ⌜ StayingCopied (meaning (now (alg .entry))) (keptHeaders (now (outline .entry))) (now (plan .entry)) (now (edit .entry)) (now (file .entry)) next (now (bytes .entry)) at (now (bytes .exit)) r ⌝ }
 {
-    let mut next = at;
-    let mut stay = 0u8;
-    for k in 0..count {
-        if clause_stays(alg, edit, file, next) {
-            stay += 1;
-        }
-        let Some(end) = end_of_clause(alg, outline, file, next) else {
-            return 0;
-        };
-        next = end;
+    if clause_stays(alg, edit, file, next) {
+        return write_clause(alg, outline, plan, edit, file, next, bytes, at);
     }
-    stay
+    match end_of_clause(alg, outline, file, next) {
+        Some(end) => Places { next: end, at },
+        None => Places { next, at },
+    }
 }
 
-// The clauses that stay.
+/// The clauses that stay.
 pub(crate) fn write_clauses<G: Algebra>(alg: &G, outline: &Outline, plan: &Plan, edit: &Edit, file: &[u8], count: u8, next: usize, bytes: &mut [u8], at: usize) -> usize
     requires { ⌜ length (now bytes) ≤ 65536 ⌝ }
     ensures { λ r. ⌜ ClausesCopied (meaning (now (alg .entry))) (keptHeaders (now (outline .entry))) (now (plan .entry)) (now (edit .entry)) (now (file .entry)) count next (now (bytes .entry)) at (now (bytes .exit)) r ⌝ }
 {
     let mut places = Places { next, at };
     for k in 0..count {
-        if clause_stays(alg, edit, file, places.next) {
-            places = write_clause(alg, outline, plan, edit, file, places.next, bytes, places.at);
-        } else {
-            let Some(end) = end_of_clause(alg, outline, file, places.next) else {
-                return places.at;
-            };
-            places = Places { next: end, at: places.at };
-        }
+        places = write_staying_clause(alg, outline, plan, edit, file, places.next, bytes, places.at);
     }
     places.at
+}
+
+fn one_if(b: bool) -> u8
+    ensures { λ r. ⌜ r ≡ cond b 1 0 ⌝ }
+{
+    if b {
+        1
+    } else {
+        0
+    }
+}
+
+/// How many of the clauses stay.
+pub(crate) fn count_clauses<G: Algebra>(alg: &G, outline: &Outline, edit: &Edit, file: &[u8], count: u8, at: usize) -> u8
+    requires { ⌜ count ≤ 15 ⌝ }
+    ensures low { λ r. ⌜ r ≤ count ⌝ }
+    ensures number { λ r. ⌜ ((p : Plan) (c : Scope) (cs : List Clause) (q : ℕ) → length (now (file .entry)) ≤ 65536 → repeated (readClause (meaning (now (alg .entry))) (keptHeaders (now (outline .entry))) c) count (now (file .entry)) at ≡ step cs q → length (keep (clauseStays p (now (edit .entry)) (meaning (now (alg .entry)))) cs) ≡ r) ⌝ }
+{
+    let mut next = at;
+    let mut stay = 0u8;
+    for k in 0..count {
+        stay += one_if(clause_stays(alg, edit, file, next));
+        let Some(end) = end_of_clause(alg, outline, file, next) else {
+            return 0;
+        };
+        next = end;
+    }
+    stay
 }

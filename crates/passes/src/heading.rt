@@ -87,16 +87,24 @@ pub(crate) fn write_header(header: Header, change: &Change, bytes: &mut [u8], at
     }
 }
 
+// How many parameters a header has.
+pub(crate) fn parameter_count(header: Header) -> usize
+    ensures count { λ r. ⌜ r ≡ length (keptHeader header .sorts) ⌝ }
+    ensures few { λ r. ⌜ r ≤ 15 ⌝ }
+{
+    header.count as usize
+}
+
 /// The start, without the values of parameters that do not stay.
 pub(crate) fn write_start(outline: &Outline, plan: &Plan, bytes: &mut [u8], at: usize) -> usize
     requires { ⌜ length (now bytes) ≤ 65536 ⌝ }
     ensures { λ r. ⌜ ((a : Alg) (f : List ℕ) (s : System) (e : Equation) → Outlined a f s (now (outline .entry)) → equationAt (s .equations) (s .start) ≡ Some e → length (e .sorts) ≡ length (s .values) → Every (λ v. v < 256) (s .values) → Wrote (startBits (now (plan .entry)) s) (now (bytes .entry)) at (now (bytes .exit)) r) ⌝ }
 {
     let start = outline.start;
-    let header = outline.headers[start.equation as usize];
+    let count = parameter_count(outline.headers[start.equation as usize]);
     let change = plan.equations[start.equation as usize];
     let values = start.values;
-    let values = &values[0..header.count as usize];
+    let values = &values[0..count];
     let at = put(bytes, at, renumbered(plan, start.equation) as u32, 5);
     write_staying(bytes, at, values, &change, 8)
 }

@@ -16,3 +16,6 @@ returns g c = λ sc k q short read narrow.
       behind = row .behind;
       wrote = clause-wrote (c .args .plan .now) (c .args .edit .now) a k (x .count) (d .count) (c .write-term-at .ensures (k .guard) (d .guard) (narrow .0)) (c .put-at .ensures (omega arith) (omega arith)) (row .wrote);
     }
+
+pub returns-in-rest : need.returns-in-rest
+returns-in-rest g c = λ sc k q short read narrow. absurd (c .in-rest .ensures tt .found (keptHeaders (c .args .outline .now)) sc k q short read)

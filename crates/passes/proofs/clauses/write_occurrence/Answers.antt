@@ -15,3 +15,6 @@ returns g c = λ sc o q short read narrow.
       wrote = occurrence-wrote (c .args .plan .now) (c .args .edit .now) a o (x .target) (c .renumbered .result) (d .target) (c .renumbered .ensures .number) (c .put-at .ensures (omega arith) (omega arith))
           (c .write-arguments-at .ensures (o .arguments) (d .count) (d .arguments) narrow);
     }
+
+pub returns-in-rest : need.returns-in-rest
+returns-in-rest g c = λ sc o q short read narrow. absurd (c .in-rest .ensures tt .found sc o q short read)

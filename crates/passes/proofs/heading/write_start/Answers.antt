@@ -1,4 +1,3 @@
-use borrow.Author.Needs.{needs}
 use native.Mathlib.Omega.{arith}
 use mathlib.Core.Path.{_≡_, sym, ap, ap₂, _∙_, subst}
 use mathlib.Core.List.{List, map}
@@ -8,11 +7,11 @@ use Rattle.std.specs.declared.option.Option.the-variants.{Some}
 use Rattle.definitions.specs.Lists.{at, flat, strike}
 use Rattle.definitions.specs.Bits.{bits}
 use Rattle.definitions.specs.Fits.{Every, headerOf}
-use Rattle.system.specs.declared.header.Header.{Header}
+use Rattle.definitions.specs.ReadSystem.{Header}
 use Rattle.system.specs.Files.{keptHeader}
 use Rattle.passes.specs.Plans.{changeAt, newNumber}
 use Rattle.passes.proofs.Writing.{wrote-then, wrote-as}
-use Rattle.passes.proofs.HeadWriting.{header-at, count-of, start-values}
+use Rattle.passes.proofs.HeadWriting.{header-at, start-values}
 use Rattle.passes.proofs.heading.write_start.Needs as need
 
 pub returns : need.returns
@@ -26,11 +25,10 @@ returns c = λ a f s e out there long small.
     let h = c .index-outline-start .result in
     let here : at (s .equations) i ≡ Some e = ap (at (s .equations)) start ∙ there in
     let k : keptHeader h ≡ headerOf e = header-at a f s o out i e h here (c .index-outline-start .is) in
-    let wide : length (h .sorts) ≡ 15 = search needs in
-    let fewer = h .few in
-    let n : h .count ≡ length (e .sorts) = count-of h e k (omega arith) in
-    let m : getD (o .headers) i h .count ≡ h .count = ap (λ (x : Header). x .count) (sym (c .index-outline-start .is)) in
-    let vs : take (getD (o .headers) i h .count - 0) (o .start .values) ≡ s .values = start-values (s .values) (o .start .values) (getD (o .headers) i h .count - 0) (out .values) (omega arith) in
+    let g : keptHeader (getD (o .headers) i h) ≡ headerOf e = ap keptHeader (sym (c .index-outline-start .is)) ∙ k in
+    let n = c .parameter-count-count .result in
+    let m : n ≡ length (s .values) = c .parameter-count-count .ensures .count ∙ ap (λ (x : Header). length (x .sorts)) g ∙ long in
+    let vs : take (n - 0) (o .start .values) ≡ s .values = start-values (s .values) (o .start .values) (n - 0) (out .values) (omega arith) in
     let low : c .renumbered .result ≤ i = c .renumbered .ensures .low in
     wrote-then (wrote-as (ap (bits 5) (c .renumbered .ensures .number ∙ ap (newNumber p) start)) (c .put-at .ensures (omega arith) (omega arith)))
     (wrote-as (ap₂ (λ (j : ℕ) (ws : List ℕ). flat (map (bits 8) (strike (changeAt p j .stays) ws))) start vs)
