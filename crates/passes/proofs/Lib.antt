@@ -12,4 +12,5 @@ pub mod KindWriting
 pub mod Sorts
 pub mod HeadWriting
 pub mod ClauseWriting
+pub mod SystemWriting
 pub mod TermWriting

@@ -4,3 +4,4 @@ pub mod Narrow
 pub mod Heads
 pub mod Writes
 pub mod Copies
+pub mod Bodies

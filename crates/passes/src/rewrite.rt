@@ -1,4 +1,7 @@
 //! Writing the file of a system as a plan changes it.
+ghost use Prim.Native.Nat.{ℕ, _<_, _≤_};
+ghost use lib.ListN.{length};
+ghost use Rattle.passes.specs.Bodies.{HeadersWritten, BodyWritten, BodiesWritten, SystemWritten};
 use crate::clauses::count_clauses;
 use crate::clauses::write_clauses;
 use crate::editing::Edit;
@@ -20,10 +23,11 @@ use system::view::View;
 use system::walk::open_body;
 
 // The body of the equation numbered i.
-fn write_body<G: Algebra>(alg: &G, outline: &Outline, plan: &Plan, file: &[u8], i: usize, bytes: &mut [u8], at: usize) -> usize {
-    if i >= 31 {
-        return at;
-    }
+fn write_body<G: Algebra>(alg: &G, outline: &Outline, plan: &Plan, file: &[u8], i: usize, bytes: &mut [u8], at: usize) -> usize
+    requires short { ⌜ length (now bytes) ≤ 65536 ⌝ }
+    requires inside { ⌜ i < 31 ⌝ }
+    ensures { λ r. ⌜ BodyWritten (meaning (now (alg .entry))) (now (file .entry)) (now (outline .entry)) (now (plan .entry)) i (now (bytes .entry)) at (now (bytes .exit)) r ⌝ }
+{
     let change = plan.equations[i];
     if change.bare {
         let at = write_value(bytes, at, 0, 0);
@@ -32,36 +36,48 @@ fn write_body<G: Algebra>(alg: &G, outline: &Outline, plan: &Plan, file: &[u8], 
     let Some(body) = open_body(alg, file, outline.bodies[i]) else {
         return at;
     };
-    let sorts = outline.headers[i].sorts;
+    let header = outline.headers[i];
+    let sorts = header.sorts;
     let edit = Edit { fold: plan.fold, change, sorts };
     let at = write_term(alg, &edit, View { bytes: file, at: body.h }, DEPTH, bytes, at);
     let at = put(bytes, at, count_clauses(alg, outline, &edit, file, body.count, body.next) as u32, 4);
     write_clauses(alg, outline, plan, &edit, file, body.count, body.next, bytes, at)
 }
 
-fn write_headers(outline: &Outline, plan: &Plan, bytes: &mut [u8], at: usize) -> usize {
-    let mut at = at;
+// The headers of the equations that stay.
+fn write_headers(outline: &Outline, plan: &Plan, bytes: &mut [u8], at: usize) -> usize
+    requires { ⌜ length (now bytes) ≤ 65536 ⌝ }
+    ensures { λ r. ⌜ HeadersWritten (now (outline .entry)) (now (plan .entry)) (now (bytes .entry)) at (now (bytes .exit)) r ⌝ }
+{
+    let mut place = at;
     for i in 0..outline.count as usize {
         let change = plan.equations[i];
         if change.kept {
-            at = write_header(outline.headers[i], &change, bytes, at);
+            place = write_header(outline.headers[i], &change, bytes, place);
         }
     }
-    at
+    place
 }
 
-fn write_bodies<G: Algebra>(alg: &G, outline: &Outline, plan: &Plan, file: &[u8], bytes: &mut [u8], at: usize) -> usize {
-    let mut at = at;
+// The bodies of the equations that stay.
+fn write_bodies<G: Algebra>(alg: &G, outline: &Outline, plan: &Plan, file: &[u8], bytes: &mut [u8], at: usize) -> usize
+    requires { ⌜ length (now bytes) ≤ 65536 ⌝ }
+    ensures { λ r. ⌜ BodiesWritten (meaning (now (alg .entry))) (now (file .entry)) (now (outline .entry)) (now (plan .entry)) (now (bytes .entry)) at (now (bytes .exit)) r ⌝ }
+{
+    let mut place = at;
     for i in 0..outline.count as usize {
         if plan.equations[i].kept {
-            at = write_body(alg, outline, plan, file, i, bytes, at);
+            place = write_body(alg, outline, plan, file, i, bytes, place);
         }
     }
-    at
+    place
 }
 
-// The file of the system as the plan changes it.
-fn write_system<G: Algebra>(alg: &G, outline: &Outline, plan: &Plan, file: &[u8], bytes: &mut [u8]) -> usize {
+// The bits of the system as the plan changes it.
+fn write_system<G: Algebra>(alg: &G, outline: &Outline, plan: &Plan, file: &[u8], bytes: &mut [u8]) -> usize
+    requires { ⌜ length (now bytes) ≤ 65536 ⌝ }
+    ensures { λ r. ⌜ SystemWritten (meaning (now (alg .entry))) (now (file .entry)) (now (outline .entry)) (now (plan .entry)) (now (bytes .entry)) (now (bytes .exit)) r ⌝ }
+{
     let at = put(bytes, 0, renumbered(plan, outline.count) as u32, 5);
     let at = write_headers(outline, plan, bytes, at);
     let at = write_bodies(alg, outline, plan, file, bytes, at);
@@ -69,7 +85,9 @@ fn write_system<G: Algebra>(alg: &G, outline: &Outline, plan: &Plan, file: &[u8]
 }
 
 // The file of the changed system in a buffer of its own, and its length; none where it does not fit.
-fn draft<G: Algebra>(alg: &G, outline: &Outline, plan: &Plan, file: &[u8], buffer: &mut [u8]) -> Option<usize> {
+fn draft<G: Algebra>(alg: &G, outline: &Outline, plan: &Plan, file: &[u8], buffer: &mut [u8]) -> Option<usize>
+    requires { ⌜ length (now buffer) ≤ 65536 ⌝ }
+{
     let at = write_system(alg, outline, plan, file, buffer);
     if at > 8 * buffer.len() {
         return None;
