@@ -13,4 +13,5 @@ pub mod Sorts
 pub mod HeadWriting
 pub mod ClauseWriting
 pub mod SystemWriting
+pub mod Drafting
 pub mod TermWriting

@@ -16,7 +16,7 @@ use Rattle.definitions.specs.Systems.{Kind, parameter, value, Term, Occurrence,
 use Rattle.definitions.specs.Terms.{truthTerm}
 use Rattle.definitions.specs.Written.{termBits, occurrenceBits, clauseBits, headerBits, bodyBits}
 use Rattle.definitions.specs.ReadSystem.{Header, Scope, scope}
-use Rattle.definitions.specs.Fits.{Fits, Every, headerOf, SortFits, HeaderFits, OccurrenceFits, ClauseFits, BodyFits, SystemFits}
+use Rattle.definitions.specs.Fits.{Fits, Every, headerOf, SortFits, HeaderFits, OccurrenceFits, ClauseFits, BodyFits, SystemFits, ValuesFit}
 use Rattle.theorems.proofs.Cut.{OnKinds, OnParameters, fits-scoped, terms-fit, getD-at, at-mapFrom, map-twice}
 use Rattle.theorems.proofs.ShapesC.{every-at, at-mapped}
 use Rattle.theorems.proofs.Refit.{strike-every, mapFrom-long}
@@ -135,3 +135,9 @@ module _ (a : Alg) (s : System) (fit : SystemFits a s) (p : Plan) (i : ℕ) (e :
 pub bare-wrote : {f g h : List ℕ} {q r t : ℕ} (p : Plan) (a : Alg) (i : ℕ) (e : Equation) → changeAt p i .bare ≡ true → Wrote (termBits (truthTerm 0)) f q g r → Wrote (bits 4 0) g r h t →
     Wrote (bodyBits (plannedEquation p a i e)) f q h t
 bare-wrote p a i e bare first second = wrote-as (ap (λ (b : Bool). bodyBits (cond b (plannedBare p i e) (plannedFull p a i e))) (sym bare)) (wrote-then first (wrote-last second))
+
+pub values-small : (a : Alg) (ss vs : List ℕ) → ValuesFit a ss vs → Every (λ v. v < 256) vs
+values-small a [] [] h = tt
+values-small a [] (v ∷ vs) h = absurd h
+values-small a (s ∷ ss) [] h = absurd h
+values-small a (s ∷ ss) (v ∷ vs) h = (h .0 .0, values-small a ss vs (h .1))

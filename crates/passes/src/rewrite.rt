@@ -1,7 +1,14 @@
 //! Writing the file of a system as a plan changes it.
+ghost use mathlib.Core.Path.{_≡_};
+ghost use mathlib.Core.List.{_++_};
 ghost use Prim.Native.Nat.{ℕ, _<_, _≤_};
-ghost use lib.ListN.{length};
-ghost use Rattle.passes.specs.Bodies.{HeadersWritten, BodyWritten, BodiesWritten, SystemWritten};
+ghost use lib.ListN.{length, drop};
+ghost use Rattle.definitions.specs.Systems.{System};
+ghost use Rattle.definitions.specs.Written.{systemBits, written as fileOf};
+ghost use Rattle.definitions.specs.Rules.{fittedIn};
+ghost use Rattle.definitions.specs.Calls.{Applies};
+ghost use Rattle.passes.specs.Plans.{planned};
+ghost use Rattle.passes.specs.Bodies.{Outlines, HeadersWritten, BodyWritten, BodiesWritten, SystemWritten, Drafts};
 use crate::clauses::count_clauses;
 use crate::clauses::write_clauses;
 use crate::editing::Edit;
@@ -87,6 +94,7 @@ fn write_system<G: Algebra>(alg: &G, outline: &Outline, plan: &Plan, file: &[u8]
 // The file of the changed system in a buffer of its own, and its length; none where it does not fit.
 fn draft<G: Algebra>(alg: &G, outline: &Outline, plan: &Plan, file: &[u8], buffer: &mut [u8]) -> Option<usize>
     requires { ⌜ length (now buffer) ≤ 65536 ⌝ }
+    ensures { λ r. ⌜ ((s : System) → Outlines (meaning (now (alg .entry))) (now (file .entry)) (now (outline .entry)) s → Drafts (systemBits (planned (now (plan .entry)) (meaning (now (alg .entry))) s)) (now (buffer .entry)) (now (buffer .exit)) r) ⌝ }
 {
     let at = write_system(alg, outline, plan, file, buffer);
     if at > 8 * buffer.len() {
@@ -96,15 +104,37 @@ fn draft<G: Algebra>(alg: &G, outline: &Outline, plan: &Plan, file: &[u8], buffe
     Some(writer.close())
 }
 
+// Copies a part to the front of `out`.
+fn copy(out: &mut [u8], part: &[u8])
+    requires { ⌜ length (now part) ≤ length (now out) ⌝ }
+    ensures { λ _. ⌜ now (out .exit) ≡ now (part .entry) ++ drop (length (now (part .entry))) (now (out .entry)) ⌝ }
+{
+    let n = part.len();
+    out[0..n].copy_from_slice(part);
+}
+
+// Delivers a file to the front of `out` if it fits.
+fn deliver(out: &mut [u8], written: &[u8]) -> Result<usize, PassFault>
+    ensures { λ r. ⌜ Applies (fittedIn (length (now (out .entry))) (now (written .entry))) (now (out .entry)) (now (out .exit)) r ⌝ }
+{
+    let len = written.len();
+    if len > out.len() || len > LONGEST {
+        return Err(PassFault::Declined(Reason::ResultTooLong));
+    }
+    copy(out, written);
+    Ok(len)
+}
+
 /// Writes the file of the system as the plan changes it to the front of `out`, and tells its length.
-pub(crate) fn write_planned<G: Algebra>(alg: &G, outline: &Outline, plan: &Plan, file: &[u8], out: &mut [u8]) -> Result<usize, PassFault> {
+pub(crate) fn write_planned<G: Algebra>(alg: &G, outline: &Outline, plan: &Plan, file: &[u8], out: &mut [u8]) -> Result<usize, PassFault>
+    ensures { λ r. ⌜ ((s : System) → Outlines (meaning (now (alg .entry))) (now (file .entry)) (now (outline .entry)) s → Applies (fittedIn (length (now (out .entry))) (fileOf (planned (now (plan .entry)) (meaning (now (alg .entry))) s))) (now (out .entry)) (now (out .exit)) r) ⌝ }
+{
     let mut buffer = [0u8; LONGEST];
     let Some(len) = draft(alg, outline, plan, file, &mut buffer) else {
         return Err(PassFault::Declined(Reason::ResultTooLong));
     };
-    if len > out.len() || len > LONGEST {
+    if len > LONGEST {
         return Err(PassFault::Declined(Reason::ResultTooLong));
     }
-    out[0..len].copy_from_slice(&buffer[0..len]);
-    Ok(len)
+    deliver(out, &buffer[0..len])
 }
