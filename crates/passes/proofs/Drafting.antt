@@ -5,9 +5,10 @@ use mathlib.Core.Logic.{_⊎_, inl, inr}
 use mathlib.Core.List.{List, [], _∷_, _++_}
 use Prim.Native.Nat.{ℕ, zero, suc, _+_, _*_, _/_, _<_, _≤_}
 use native.Mathlib.Omega.{arith}
-use lib.Dec.{ltb}
-use lib.ListN.{length, getD, drop}
-use Rattle.std.proofs.shelf.Tests.{cases-lt, lt-ltb}
+use lib.Dec.{ltb, leb}
+use lib.ListN.{length, getD, take, drop}
+use lib.Seq.{take-append-seam}
+use Rattle.std.proofs.shelf.Tests.{cases-lt, lt-ltb, lt-leb, and-right}
 use Rattle.std.specs.declared.option.Option.{Option}
 use Rattle.std.specs.declared.option.Option.the-variants.{None, Some}
 use Rattle.definitions.specs.Lists.{each}
@@ -15,6 +16,10 @@ use Rattle.definitions.specs.Bits.{bytesOf, packed}
 use Rattle.definitions.specs.Systems.{System}
 use Rattle.definitions.specs.Written.{systemBits}
 use Rattle.definitions.specs.Fits.{Every}
+use Rattle.definitions.specs.Settle.{Ran, wrote, refused}
+use Rattle.definitions.specs.Rules.{fittedIn}
+use Rattle.faults.specs.declared.Reason.the-variants.{ResultTooLong}
+use Rattle.faults.specs.declared.PassFault.the-variants.{Declined}
 use Rattle.theorems.proofs.Whole.{system-bits}
 use Rattle.bits.specs.Put.{overwritten, closed}
 use Rattle.bits.specs.Back.{areBits}
@@ -58,3 +63,14 @@ drafts-some s f g h q n w under bytes count close =
       close ∙ ap₂ closed (k .1) e ∙ packs f bs bytes (all-bits bs (system-bits s)) fit ∙ ap (λ z. packed bs ++ drop z f) (sym m),
       (let z : n ≤ length f = omega arith in z),
     )
+
+-- a file that is too long is declined
+pub too-long : (room : ℕ) (bs : List ℕ) → 65536 < length bs → fittedIn room (packed bs) ≡ refused (Declined ResultTooLong)
+too-long room bs h =
+    let l : length (packed bs) ≡ (length bs + 7) / 8 = packed-long bs in
+    let m : 8192 < length (packed bs) = omega arith in
+    ap (λ (b : Bool). elim b as (λ _. Ran) [ true ↦ wrote (packed bs) | false ↦ refused (Declined ResultTooLong) ])
+    (and-right (leb (length (packed bs)) room) (leb (length (packed bs)) 8192) (lt-leb (length (packed bs)) 8192 m))
+
+pub drafted-front : (bs f h : List ℕ) (n m : ℕ) → m ≡ n → Drafts bs f h (Some n) → take m h ≡ packed bs
+drafted-front bs f h n m e d = ap₂ take (e ∙ d .0) (d .1) ∙ take-append-seam (packed bs) (drop n f)

@@ -14,4 +14,5 @@ pub mod HeadWriting
 pub mod ClauseWriting
 pub mod SystemWriting
 pub mod Drafting
+pub mod FoldPlans
 pub mod TermWriting
