@@ -16,22 +16,26 @@ use Rattle.faults.specs.declared.PassFault.{PassFault}
 use Rattle.faults.specs.declared.Reason.{Reason}
 use Rattle.faults.specs.declared.Reason.the-variants.{BadLength}
 use Rattle.definitions.specs.Lists.{at}
-use Rattle.definitions.specs.Alg.{Alg}
+use Rattle.definitions.specs.Alg.{Alg, Lawful}
 use Rattle.definitions.specs.Systems.{Term, Clause, Equation, System}
 use Rattle.definitions.specs.Reading.{Step, next, stop, Reader, Reading, got, bad, follow, take, repeated, complete, ended}
 use Rattle.definitions.specs.ReadSystem.{Scope, Header, Sorted, scope, greatestDepth, readTerm, readOf, readClause, readBody, readSystem, reading}
 use Rattle.definitions.specs.Values.{known, isFalse}
 use Rattle.definitions.specs.Written.{written}
-use Rattle.definitions.specs.Fits.{SystemFits, HeaderFits, headerOf}
+use Rattle.definitions.specs.Fits.{Every}
 use Rattle.definitions.specs.Settle.{Pass}
 use Rattle.definitions.specs.Rules.{fittedIn, applied, appliedTo}
 use Rattle.definitions.specs.Calls.{Applies}
+use Rattle.theorems.proofs.Repack.{whole-forth}
 use Rattle.terms.specs.Shapes.{what, standing}
 use Rattle.terms.proofs.Laws.{followed, term-stands}
 use Rattle.passes.specs.declared.plan.Change.{Change}
 use Rattle.passes.specs.declared.plan.Plan.{Plan}
 use Rattle.passes.specs.Plans.{nothing, planned}
 use Rattle.passes.specs.Finds.{FoldChange}
+use Rattle.system.specs.declared.outline.Outline.{Outline}
+use Rattle.system.specs.Whole.{Outlined}
+use Rattle.passes.specs.Bodies.{Outlines}
 use Rattle.passes.proofs.Masks.{getD-replicate}
 
 getD-front : {A : Type 0} (n k : ℕ) (x d : A) → k < n → getD (replicate n x) k d ≡ x
@@ -82,3 +86,13 @@ pub delivers-meant : (m : Pass) (a : Alg) (f : List ℕ) (s : System) (p : Plan)
     Applies (fittedIn room (written (planned p a s))) before after r → Applies (applied m a room f) before after r
 delivers-meant m a f s p room before after r read makes h =
     subst (λ o. Applies o before after r) (ap (λ (t : System). fittedIn room (written t)) makes ∙ ap (appliedTo m a room) (sym read)) h
+
+all-bytes : (f : List ℕ) → ((k : ℕ) → getD f k 0 < 256) → Every (λ x. x < 256) f
+all-bytes [] h = tt
+all-bytes (x ∷ xs) h = (h 0, all-bytes xs (λ k. h (suc k)))
+
+-- the outline of an accepted file
+pub outlines : (a : Alg) → Lawful a → (f : List ℕ) (o : Outline) (s : System) → ((k : ℕ) → getD f k 0 < 256) → reading a f ≡ got s → Outlined a f s o → Outlines a f o s
+outlines a law f o s bytes read out =
+    let l : length f ≤ 8192 = got-short a f s read in
+    record { outlined = out; fits = whole-forth a law f (all-bytes f bytes) s read .1; short = omega arith }
