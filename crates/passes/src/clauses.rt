@@ -36,14 +36,25 @@ use system::walk::open_clause;
 use system::walk::open_occurrence;
 
 // The arguments for the parameters that stay.
-fn write_arguments<G: Algebra>(alg: &G, edit: &Edit, file: &[u8], occurrence: OccurrenceAt, change: &Change, bytes: &mut [u8], at: usize) -> usize
+fn write_arguments<G: Algebra>(
+    alg: &G,
+    edit: &Edit,
+    file: &[u8],
+    occurrence: OccurrenceAt,
+    change: &Change,
+    bytes: &mut [u8],
+    at: usize,
+) -> usize
     requires { ⌜ length (now bytes) ≤ 65536 ⌝ }
     ensures { λ r. ⌜ ((ts : List Tree) → occurrence .count ≡ length ts → Placed (meaning (now (alg .entry))) (now (file .entry)) (occurrence .arguments) ts → Every (λ t. Narrow t (now (edit .entry))) ts → Wrote (flat (map (λ t. termBits (edited t (now (edit .entry)) (meaning (now (alg .entry))))) (strike (now (change .entry) .stays) ts))) (now (bytes .entry)) at (now (bytes .exit)) r) ⌝ }
 {
     let mut place = at;
     for k in 0..occurrence.count {
         if change.stays[k as usize] {
-            let view = View { bytes: file, at: occurrence.arguments[k as usize] };
+            let view = View {
+                bytes: file,
+                at: occurrence.arguments[k as usize],
+            };
             place = write_term(alg, edit, view, DEPTH, bytes, place);
         }
     }
@@ -51,7 +62,16 @@ fn write_arguments<G: Algebra>(alg: &G, edit: &Edit, file: &[u8], occurrence: Oc
 }
 
 // The occurrence at the place.
-fn write_occurrence<G: Algebra>(alg: &G, outline: &Outline, plan: &Plan, edit: &Edit, file: &[u8], next: usize, bytes: &mut [u8], at: usize) -> Places
+fn write_occurrence<G: Algebra>(
+    alg: &G,
+    outline: &Outline,
+    plan: &Plan,
+    edit: &Edit,
+    file: &[u8],
+    next: usize,
+    bytes: &mut [u8],
+    at: usize,
+) -> Places
     requires { ⌜ length (now bytes) ≤ 65536 ⌝ }
     ensures { λ r. ⌜ OccurrenceCopied (meaning (now (alg .entry))) (keptHeaders (now (outline .entry))) (now (plan .entry)) (now (edit .entry)) (now (file .entry)) next (now (bytes .entry)) at (now (bytes .exit)) r ⌝ }
 {
@@ -61,32 +81,83 @@ fn write_occurrence<G: Algebra>(alg: &G, outline: &Outline, plan: &Plan, edit: &
     let change = plan.equations[occurrence.target as usize];
     let at = put(bytes, at, renumbered(plan, occurrence.target) as u32, 5);
     let at = write_arguments(alg, edit, file, occurrence, &change, bytes, at);
-    Places { next: occurrence.next, at }
+    Places {
+        next: occurrence.next,
+        at,
+    }
 }
 
 // Some occurrences in a row.
-fn write_occurrences<G: Algebra>(alg: &G, outline: &Outline, plan: &Plan, edit: &Edit, file: &[u8], count: u8, next: usize, bytes: &mut [u8], at: usize) -> Places
+fn write_occurrences<G: Algebra>(
+    alg: &G,
+    outline: &Outline,
+    plan: &Plan,
+    edit: &Edit,
+    file: &[u8],
+    count: u8,
+    next: usize,
+    bytes: &mut [u8],
+    at: usize,
+) -> Places
     requires { ⌜ length (now bytes) ≤ 65536 ⌝ }
     ensures { λ r. ⌜ OccurrencesCopied (meaning (now (alg .entry))) (keptHeaders (now (outline .entry))) (now (plan .entry)) (now (edit .entry)) (now (file .entry)) count next (now (bytes .entry)) at (now (bytes .exit)) r ⌝ }
 {
     let mut places = Places { next, at };
     for k in 0..count {
-        places = write_occurrence(alg, outline, plan, edit, file, places.next, bytes, places.at);
+        places = write_occurrence(
+            alg,
+            outline,
+            plan,
+            edit,
+            file,
+            places.next,
+            bytes,
+            places.at,
+        );
     }
     places
 }
 
 // The clause at the place.
-fn write_clause<G: Algebra>(alg: &G, outline: &Outline, plan: &Plan, edit: &Edit, file: &[u8], next: usize, bytes: &mut [u8], at: usize) -> Places
+fn write_clause<G: Algebra>(
+    alg: &G,
+    outline: &Outline,
+    plan: &Plan,
+    edit: &Edit,
+    file: &[u8],
+    next: usize,
+    bytes: &mut [u8],
+    at: usize,
+) -> Places
     requires { ⌜ length (now bytes) ≤ 65536 ⌝ }
     ensures { λ r. ⌜ ClauseCopied (meaning (now (alg .entry))) (keptHeaders (now (outline .entry))) (now (plan .entry)) (now (edit .entry)) (now (file .entry)) next (now (bytes .entry)) at (now (bytes .exit)) r ⌝ }
 {
     let Some(clause) = open_clause(alg, file, next) else {
         return Places { next, at };
     };
-    let at = write_term(alg, edit, View { bytes: file, at: clause.guard }, DEPTH, bytes, at);
+    let at = write_term(
+        alg,
+        edit,
+        View {
+            bytes: file,
+            at: clause.guard,
+        },
+        DEPTH,
+        bytes,
+        at,
+    );
     let at = put(bytes, at, clause.count as u32 - 1, 3);
-    write_occurrences(alg, outline, plan, edit, file, clause.count, clause.next, bytes, at)
+    write_occurrences(
+        alg,
+        outline,
+        plan,
+        edit,
+        file,
+        clause.count,
+        clause.next,
+        bytes,
+        at,
+    )
 }
 
 // Whether the clause at the place stays: its guard does not fold to false.
@@ -100,7 +171,16 @@ fn clause_stays<G: Algebra>(alg: &G, edit: &Edit, file: &[u8], at: usize) -> boo
 }
 
 // The clause at the place if it stays; else nothing is written.
-fn write_staying_clause<G: Algebra>(alg: &G, outline: &Outline, plan: &Plan, edit: &Edit, file: &[u8], next: usize, bytes: &mut [u8], at: usize) -> Places
+fn write_staying_clause<G: Algebra>(
+    alg: &G,
+    outline: &Outline,
+    plan: &Plan,
+    edit: &Edit,
+    file: &[u8],
+    next: usize,
+    bytes: &mut [u8],
+    at: usize,
+) -> Places
     requires { ⌜ length (now bytes) ≤ 65536 ⌝ }
     ensures { λ r. ⌜ StayingCopied (meaning (now (alg .entry))) (keptHeaders (now (outline .entry))) (now (plan .entry)) (now (edit .entry)) (now (file .entry)) next (now (bytes .entry)) at (now (bytes .exit)) r ⌝ }
 {
@@ -114,13 +194,32 @@ fn write_staying_clause<G: Algebra>(alg: &G, outline: &Outline, plan: &Plan, edi
 }
 
 /// The clauses that stay.
-pub(crate) fn write_clauses<G: Algebra>(alg: &G, outline: &Outline, plan: &Plan, edit: &Edit, file: &[u8], count: u8, next: usize, bytes: &mut [u8], at: usize) -> usize
+pub(crate) fn write_clauses<G: Algebra>(
+    alg: &G,
+    outline: &Outline,
+    plan: &Plan,
+    edit: &Edit,
+    file: &[u8],
+    count: u8,
+    next: usize,
+    bytes: &mut [u8],
+    at: usize,
+) -> usize
     requires { ⌜ length (now bytes) ≤ 65536 ⌝ }
     ensures { λ r. ⌜ ClausesCopied (meaning (now (alg .entry))) (keptHeaders (now (outline .entry))) (now (plan .entry)) (now (edit .entry)) (now (file .entry)) count next (now (bytes .entry)) at (now (bytes .exit)) r ⌝ }
 {
     let mut places = Places { next, at };
     for k in 0..count {
-        places = write_staying_clause(alg, outline, plan, edit, file, places.next, bytes, places.at);
+        places = write_staying_clause(
+            alg,
+            outline,
+            plan,
+            edit,
+            file,
+            places.next,
+            bytes,
+            places.at,
+        );
     }
     places.at
 }
@@ -128,15 +227,18 @@ pub(crate) fn write_clauses<G: Algebra>(alg: &G, outline: &Outline, plan: &Plan,
 fn one_if(b: bool) -> u8
     ensures { λ r. ⌜ r ≡ cond b 1 0 ⌝ }
 {
-    if b {
-        1
-    } else {
-        0
-    }
+    if b { 1 } else { 0 }
 }
 
 /// How many of the clauses stay.
-pub(crate) fn count_clauses<G: Algebra>(alg: &G, outline: &Outline, edit: &Edit, file: &[u8], count: u8, at: usize) -> u8
+pub(crate) fn count_clauses<G: Algebra>(
+    alg: &G,
+    outline: &Outline,
+    edit: &Edit,
+    file: &[u8],
+    count: u8,
+    at: usize,
+) -> u8
     requires { ⌜ count ≤ 15 ⌝ }
     ensures low { λ r. ⌜ r ≤ count ⌝ }
     ensures number { λ r. ⌜ ((p : Plan) (c : Scope) (cs : List Clause) (q : ℕ) → length (now (file .entry)) ≤ 65536 → repeated (readClause (meaning (now (alg .entry))) (keptHeaders (now (outline .entry))) c) count (now (file .entry)) at ≡ step cs q → length (keep (clauseStays p (now (edit .entry)) (meaning (now (alg .entry)))) cs) ≡ r) ⌝ }

@@ -52,7 +52,12 @@ fn write_parameter(edit: &Edit, n: u8, bytes: &mut [u8], at: usize) -> usize
         Some(value) => write_value(bytes, at, edit.sorts[n as usize], value),
         None => {
             let at = put(bytes, at, 0, 3);
-            put(bytes, at, number_among(&edit.change.stays, n as usize) as u32, 4)
+            put(
+                bytes,
+                at,
+                number_among(&edit.change.stays, n as usize) as u32,
+                4,
+            )
         }
     }
 }
@@ -123,7 +128,14 @@ pub(crate) fn folds_to<G: Algebra>(alg: &G, fold: bool, view: View, depth: u8) -
 }
 
 // The term at the view, which has depth at most `depth`, as the edit changes it.
-pub(crate) fn write_term<G: Algebra>(alg: &G, edit: &Edit, view: View, depth: u8, bytes: &mut [u8], at: usize) -> usize
+pub(crate) fn write_term<G: Algebra>(
+    alg: &G,
+    edit: &Edit,
+    view: View,
+    depth: u8,
+    bytes: &mut [u8],
+    at: usize,
+) -> usize
     requires { ⌜ length (now bytes) ≤ 65536 ⌝ }
     ensures { λ r. ⌜ ((t : Tree) → standing (meaning (now (alg .entry))) depth (now (view .entry .bytes)) (view .entry .at) ≡ Some t → Narrow t (now (edit .entry)) → Wrote (termBits (edited t (now (edit .entry)) (meaning (now (alg .entry))))) (now (bytes .entry)) at (now (bytes .exit)) r) ⌝ }
 {

@@ -37,7 +37,13 @@ pub(crate) fn write_value(bytes: &mut [u8], at: usize, sort: u8, value: u8) -> u
 }
 
 // The numbers of the parameters that stay, as fields of one width.
-pub(crate) fn write_staying(bytes: &mut [u8], at: usize, numbers: &[u8], change: &Change, width: u32) -> usize
+pub(crate) fn write_staying(
+    bytes: &mut [u8],
+    at: usize,
+    numbers: &[u8],
+    change: &Change,
+    width: u32,
+) -> usize
     requires short { ⌜ length (now bytes) ≤ 65536 ⌝ }
     requires few { ⌜ length (now numbers) ≤ 15 ⌝ }
     ensures { λ r. ⌜ (width ≤ 32 → Every (λ v. v < 2 ^ width) (now (numbers .entry)) → Wrote (flat (map (bitsOf width) (strike (now (change .entry) .stays) (now (numbers .entry))))) (now (bytes .entry)) at (now (bytes .exit)) r) ⌝ }

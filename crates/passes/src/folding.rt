@@ -44,7 +44,12 @@ fn whole(bare: bool) -> Change
     ensures stays { λ r. ⌜ r .stays ≡ replicate 15 true ⌝ }
     ensures values { λ r. ⌜ r .values ≡ replicate 15 None ⌝ }
 {
-    Change { kept: true, bare, stays: [true; 15], values: [None; 15] }
+    Change {
+        kept: true,
+        bare,
+        stays: [true; 15],
+        values: [None; 15],
+    }
 }
 
 // Everything folds, and equations whose h is then false become bare.
@@ -55,7 +60,10 @@ fn plan_folding<G: Algebra>(alg: &G, outline: &Outline, file: &[u8]) -> Plan
     for i in 0..outline.count as usize {
         equations[i] = whole(known_false(alg, file, outline.bodies[i]));
     }
-    Plan { fold: true, equations }
+    Plan {
+        fold: true,
+        equations,
+    }
 }
 
 pub impl Pass for Fold as FoldPass {

@@ -78,7 +78,12 @@ pub(crate) fn write_header(header: Header, change: &Change, bytes: &mut [u8], at
     let sorts = header.sorts;
     let sorts = &sorts[0..header.count as usize];
     let at = write_sign(header.sign, bytes, at);
-    let at = put(bytes, at, number_among(&change.stays, sorts.len()) as u32, 4);
+    let at = put(
+        bytes,
+        at,
+        number_among(&change.stays, sorts.len()) as u32,
+        4,
+    );
     let at = write_staying(bytes, at, sorts, change, 4);
     if change.bare {
         put(bytes, at, 0, 2)

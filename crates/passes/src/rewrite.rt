@@ -30,7 +30,15 @@ use system::view::View;
 use system::walk::open_body;
 
 // The body of the equation numbered i.
-fn write_body<G: Algebra>(alg: &G, outline: &Outline, plan: &Plan, file: &[u8], i: usize, bytes: &mut [u8], at: usize) -> usize
+fn write_body<G: Algebra>(
+    alg: &G,
+    outline: &Outline,
+    plan: &Plan,
+    file: &[u8],
+    i: usize,
+    bytes: &mut [u8],
+    at: usize,
+) -> usize
     requires short { ⌜ length (now bytes) ≤ 65536 ⌝ }
     requires inside { ⌜ i < 31 ⌝ }
     ensures { λ r. ⌜ BodyWritten (meaning (now (alg .entry))) (now (file .entry)) (now (outline .entry)) (now (plan .entry)) i (now (bytes .entry)) at (now (bytes .exit)) r ⌝ }
@@ -45,10 +53,39 @@ fn write_body<G: Algebra>(alg: &G, outline: &Outline, plan: &Plan, file: &[u8], 
     };
     let header = outline.headers[i];
     let sorts = header.sorts;
-    let edit = Edit { fold: plan.fold, change, sorts };
-    let at = write_term(alg, &edit, View { bytes: file, at: body.h }, DEPTH, bytes, at);
-    let at = put(bytes, at, count_clauses(alg, outline, &edit, file, body.count, body.next) as u32, 4);
-    write_clauses(alg, outline, plan, &edit, file, body.count, body.next, bytes, at)
+    let edit = Edit {
+        fold: plan.fold,
+        change,
+        sorts,
+    };
+    let at = write_term(
+        alg,
+        &edit,
+        View {
+            bytes: file,
+            at: body.h,
+        },
+        DEPTH,
+        bytes,
+        at,
+    );
+    let at = put(
+        bytes,
+        at,
+        count_clauses(alg, outline, &edit, file, body.count, body.next) as u32,
+        4,
+    );
+    write_clauses(
+        alg,
+        outline,
+        plan,
+        &edit,
+        file,
+        body.count,
+        body.next,
+        bytes,
+        at,
+    )
 }
 
 // The headers of the equations that stay.
@@ -67,7 +104,14 @@ fn write_headers(outline: &Outline, plan: &Plan, bytes: &mut [u8], at: usize) ->
 }
 
 // The bodies of the equations that stay.
-fn write_bodies<G: Algebra>(alg: &G, outline: &Outline, plan: &Plan, file: &[u8], bytes: &mut [u8], at: usize) -> usize
+fn write_bodies<G: Algebra>(
+    alg: &G,
+    outline: &Outline,
+    plan: &Plan,
+    file: &[u8],
+    bytes: &mut [u8],
+    at: usize,
+) -> usize
     requires { ⌜ length (now bytes) ≤ 65536 ⌝ }
     ensures { λ r. ⌜ BodiesWritten (meaning (now (alg .entry))) (now (file .entry)) (now (outline .entry)) (now (plan .entry)) (now (bytes .entry)) at (now (bytes .exit)) r ⌝ }
 {
@@ -81,7 +125,13 @@ fn write_bodies<G: Algebra>(alg: &G, outline: &Outline, plan: &Plan, file: &[u8]
 }
 
 // The bits of the system as the plan changes it.
-fn write_system<G: Algebra>(alg: &G, outline: &Outline, plan: &Plan, file: &[u8], bytes: &mut [u8]) -> usize
+fn write_system<G: Algebra>(
+    alg: &G,
+    outline: &Outline,
+    plan: &Plan,
+    file: &[u8],
+    bytes: &mut [u8],
+) -> usize
     requires { ⌜ length (now bytes) ≤ 65536 ⌝ }
     ensures { λ r. ⌜ SystemWritten (meaning (now (alg .entry))) (now (file .entry)) (now (outline .entry)) (now (plan .entry)) (now (bytes .entry)) (now (bytes .exit)) r ⌝ }
 {
@@ -92,7 +142,13 @@ fn write_system<G: Algebra>(alg: &G, outline: &Outline, plan: &Plan, file: &[u8]
 }
 
 // The file of the changed system in a buffer of its own, and its length; none where it does not fit.
-fn draft<G: Algebra>(alg: &G, outline: &Outline, plan: &Plan, file: &[u8], buffer: &mut [u8]) -> Option<usize>
+fn draft<G: Algebra>(
+    alg: &G,
+    outline: &Outline,
+    plan: &Plan,
+    file: &[u8],
+    buffer: &mut [u8],
+) -> Option<usize>
     requires { ⌜ length (now buffer) ≤ 65536 ⌝ }
     ensures { λ r. ⌜ ((s : System) → Outlines (meaning (now (alg .entry))) (now (file .entry)) (now (outline .entry)) s → Drafts (systemBits (planned (now (plan .entry)) (meaning (now (alg .entry))) s)) (now (buffer .entry)) (now (buffer .exit)) r) ⌝ }
 {
@@ -126,7 +182,13 @@ fn deliver(out: &mut [u8], written: &[u8]) -> Result<usize, PassFault>
 }
 
 /// Writes the file of the system as the plan changes it to the front of `out`, and tells its length.
-pub(crate) fn write_planned<G: Algebra>(alg: &G, outline: &Outline, plan: &Plan, file: &[u8], out: &mut [u8]) -> Result<usize, PassFault>
+pub(crate) fn write_planned<G: Algebra>(
+    alg: &G,
+    outline: &Outline,
+    plan: &Plan,
+    file: &[u8],
+    out: &mut [u8],
+) -> Result<usize, PassFault>
     ensures { λ r. ⌜ ((s : System) → Outlines (meaning (now (alg .entry))) (now (file .entry)) (now (outline .entry)) s → Applies (fittedIn (length (now (out .entry))) (fileOf (planned (now (plan .entry)) (meaning (now (alg .entry))) s))) (now (out .entry)) (now (out .exit)) r) ⌝ }
 {
     let mut buffer = [0u8; LONGEST];

@@ -26,8 +26,8 @@ loop-k-again g c = λ sc cs q short read narrow.
     let k = c .loop-k .k in
     let e : n - k ≡ suc (n - (k + 1)) = omega arith in
     left-more (c .loop-k .inv sc cs q short read narrow) e (λ o t one fine.
-        let d = c .write-staying-clause-places .ensures sc o t short one fine in
-        (d .behind, d .wrote))
+    let d = c .write-staying-clause-places .ensures sc o t short one fine in
+    (d .behind, d .wrote))
 
 pub returns : need.returns
 returns g c = λ sc cs q short read narrow.

@@ -30,11 +30,11 @@ loop-i-again g c =
           set-next (λ (j : ℕ) (x : Change). (e : Equation) → at (s .equations) j ≡ Some e → FoldChange a e x) xs i (c .whole .result) nothing (omega arith)
           (λ j m e at-j. c .loop-i .inv .1 s out j e m at-j)
           (λ e at-i.
-              let (q, read) = out .outlined .bodies i e at-i in
-              let header = every-at (HeaderFits a) (map headerOf (s .equations)) i (headerOf e) (at-mapped headerOf (s .equations) i e at-i) (out .fits .headers) in
-              let q15 : length (e .sorts) < 16 = header .few in
-              fold-change a e (c .whole .result) (omega arith) (c .whole .ensures .kept)
-              (c .whole .ensures .bare ∙ c .known-false .ensures (e .h) (h-stands a (keptHeaders o) (headerOf e) f _ e q (out .short) read)) (c .whole .ensures .stays) (c .whole .ensures .values))
+          let (q, read) = out .outlined .bodies i e at-i in
+          let header = every-at (HeaderFits a) (map headerOf (s .equations)) i (headerOf e) (at-mapped headerOf (s .equations) i e at-i) (out .fits .headers) in
+          let q15 : length (e .sorts) < 16 = header .few in
+          fold-change a e (c .whole .result) (omega arith) (c .whole .ensures .kept)
+          (c .whole .ensures .bare ∙ c .known-false .ensures (e .h) (h-stands a (keptHeaders o) (headerOf e) f _ e q (out .short) read)) (c .whole .ensures .stays) (c .whole .ensures .values))
           k l e there,
     )
 

@@ -25,8 +25,8 @@ returns-then-change c = λ narrow.
     let s : length xs ≤ n - 0 = take-short (n - 0) (h .sorts) in
     let low : c .number-among .result ≤ length xs = c .number-among .ensures .low in
     let w = head-wrote (keptSign (h .sign)) xs qs ms b (c .number-among .result) (c .number-among .ensures .number) (c .write-sign-at .ensures) (c .put-at .ensures (omega arith) (omega arith))
-        (c .write-staying-at .ensures (omega arith) (subst (λ (m : ℕ). Every (λ v. v < 16) (take m (h .sorts))) (sym e) (narrow .0)))
-        (wrote-as (ap (λ (x : Bool). variableBits (cond x [] qs)) (sym (c .if-change .taken))) (c .put .ensures (omega arith) (omega arith))) in
+    (c .write-staying-at .ensures (omega arith) (subst (λ (m : ℕ). Every (λ v. v < 16) (take m (h .sorts))) (sym e) (narrow .0)))
+    (wrote-as (ap (λ (x : Bool). variableBits (cond x [] qs)) (sym (c .if-change .taken))) (c .put .ensures (omega arith) (omega arith))) in
     subst (λ (m : ℕ). Wrote (headBits (record { sign = keptSign (h .sign); sorts = take m (h .sorts); quantified = qs }) ms b) (c .args .bytes .now) (c .args .at) (c .put .last .bytes) (c .put .result)) e w
 
 pub returns-else-change : need.returns-else-change
@@ -42,6 +42,6 @@ returns-else-change c = λ narrow.
     let s : length xs ≤ n - 0 = take-short (n - 0) (h .sorts) in
     let low : c .number-among .result ≤ length xs = c .number-among .ensures .low in
     let w = head-wrote (keptSign (h .sign)) xs qs ms b (c .number-among .result) (c .number-among .ensures .number) (c .write-sign-at .ensures) (c .put-at .ensures (omega arith) (omega arith))
-        (c .write-staying-at .ensures (omega arith) (subst (λ (m : ℕ). Every (λ v. v < 16) (take m (h .sorts))) (sym e) (narrow .0)))
-        (wrote-as (ap (λ (x : Bool). variableBits (cond x [] qs)) (sym (c .if-change .left))) (c .write-variables .ensures (narrow .1))) in
+    (c .write-staying-at .ensures (omega arith) (subst (λ (m : ℕ). Every (λ v. v < 16) (take m (h .sorts))) (sym e) (narrow .0)))
+    (wrote-as (ap (λ (x : Bool). variableBits (cond x [] qs)) (sym (c .if-change .left))) (c .write-variables .ensures (narrow .1))) in
     subst (λ (m : ℕ). Wrote (headBits (record { sign = keptSign (h .sign); sorts = take m (h .sorts); quantified = qs }) ms b) (c .args .bytes .now) (c .args .at) (c .write-variables .last .bytes) (c .write-variables .result)) e w

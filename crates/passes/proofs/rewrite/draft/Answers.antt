@@ -14,4 +14,4 @@ returns g c = λ s out.
     let f = c .args .buffer .now in
     let small : (k : ℕ) → getD f k 0 < 256 = λ k. search needs in
     let under : c .write-system-at .result ≤ 8 * length (c .write-system-at .last .bytes) = omega arith in
-    drafts-some (planned p a s) f (c .write-system-at .last .bytes) _ (c .write-system-at .result) (c .close .result) (c .write-system-at .ensures s out) under small (c .close .ensures .count) (c .buffer-2·1 .given .1 .1 (sym (c .close .ensures .lent)) ∙ c .close .ensures .padded)
+    drafts-some (planned p a s) f (c .write-system-at .last .bytes) _ (c .write-system-at .result) (c .close .result) (c .write-system-at .ensures s out) under small (c .close .ensures .count) (let lent = sym (c .close .ensures .lent) in search needs)
