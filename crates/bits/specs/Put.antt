@@ -1,13 +1,9 @@
 -- Writing bits into a file.
-use mathlib.Core.Path.{_≡_}
-use mathlib.Core.Logic.{_⊎_}
-use mathlib.Core.List.{List, [], _∷_, _++_}
-use mathlib.Core.Bool.{Bool, true, false, _&&_}
-use Prim.Native.Nat.{ℕ, zero, suc, _+_, _-_, _*_, _/_, _%_, _^_, _<_, _≤_}
+use mathlib.Core.List.{List, [], _∷_}
+use mathlib.Core.Bool.{Bool, _&&_}
+use Prim.Native.Nat.{ℕ, suc, _+_, _-_, _*_, _/_, _%_, _^_}
 use lib.Dec.{leb, ltb}
-use lib.ListN.{length, getD, set, drop, replicate}
-use Rattle.definitions.specs.Bits.{bitAt, Stands, packed}
-use Rattle.definitions.specs.Lists.{each}
+use lib.ListN.{length, getD, set, replicate}
 
 -- the byte x with b in the place of its bit of the weight m
 abbrev pub withBit : ℕ → ℕ → ℕ → ℕ
@@ -30,5 +26,6 @@ room f p w v = (leb (length f) 65536 && leb w 32) && (ltb v (2 ^ w) && leb (p + 
 abbrev pub padding : ℕ → ℕ
 padding p = (8 - p % 8) % 8
 
+-- with zero bits from the place p up to the byte
 abbrev pub closed : List ℕ → ℕ → List ℕ
 closed f p = overwritten f p (replicate (padding p) 0)

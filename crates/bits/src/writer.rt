@@ -2,6 +2,7 @@
 ghost use mathlib.Core.Path.{_≡_};
 ghost use mathlib.Core.Bool.{true, false};
 ghost use Prim.Native.Nat.{_+_, _*_, _/_, _%_, _^_, _<_, _≤_};
+ghost use denote.Ref.{name};
 ghost use lib.ListN.{length};
 ghost use Rattle.std.specs.declared.result.Result.the-variants.{Ok, Err};
 ghost use Rattle.definitions.specs.Bits.{bits as bitsOf};
@@ -59,6 +60,7 @@ impl<'a> BitWriter<'a> {
     /// It does not fit either where the slice is longer than 65,536 bytes or the field wider than 32 bits.
     pub fn put(&mut self, value: u32, width: u32) -> Result<(), Full>
         ensures written { λ r. ⌜ elim r [ Ok _ ↦ (hasRoom (now (now (self .entry) .bytes)) (now (self .entry) .at) width value ≡ true) × (now (now (self .exit) .bytes) ≡ overwritten (now (now (self .entry) .bytes)) (now (self .entry) .at) (bitsOf width value)) × (now (self .exit) .at ≡ now (self .entry) .at + width) | Err _ ↦ (hasRoom (now (now (self .entry) .bytes)) (now (self .entry) .at) width value ≡ false) × (now (now (self .exit) .bytes) ≡ now (now (self .entry) .bytes)) × (now (self .exit) .at ≡ now (self .entry) .at) ] ⌝ }
+        ensures named { λ _. ⌜ name (now (self .exit) .bytes) ≡ name (now (self .entry) .bytes) ⌝ }
     {
         if self.bytes.len() > 65536 || width > 32 {
             return Err(Full {});
@@ -81,6 +83,7 @@ impl<'a> BitWriter<'a> {
         ensures count { λ r. ⌜ r ≡ (now (self .entry) .at + 7) / 8 ⌝ }
         ensures padded { λ _. ⌜ now (now (self .exit) .bytes) ≡ paddedOut (now (now (self .entry) .bytes)) (now (self .entry) .at) ⌝ }
         ensures stays { λ _. ⌜ now (self .exit) .at ≡ now (self .entry) .at ⌝ }
+        ensures named { λ _. ⌜ name (now (self .exit) .bytes) ≡ name (now (self .entry) .bytes) ⌝ }
     {
         let at = self.at;
         let byte = at / 8;

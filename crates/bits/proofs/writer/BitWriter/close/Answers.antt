@@ -2,7 +2,7 @@ use native.Mathlib.Omega.{arith}
 use mathlib.Core.Path.{_≡_, refl, ap, sym, _∙_}
 use mathlib.Core.List.{List}
 use Prim.Native.Nat.{ℕ, _-_, _/_, _%_, _≤_}
-use denote.Ref.{now}
+use denote.Ref.{now, name}
 use lib.ListN.{length, replicate}
 use Rattle.bits.specs.Put.{closed}
 use Rattle.bits.specs.declared.writer.BitWriter.{BitWriter}
@@ -21,4 +21,5 @@ returns c =
         | else-byte-self w ↦ ap (λ (s : BitWriter). now (s .bytes)) (w .self-is) ∙ sym (overwritten-out f p (replicate ((8 - p % 8) % 8) 0) (let h : length f ≤ p / 8 = omega arith in h))
       ];
       stays = elim (c .if-byte-self .came) [ then-byte-self w ↦ ap (λ (s : BitWriter). s .at) (w .self-is) | else-byte-self w ↦ ap (λ (s : BitWriter). s .at) (w .self-is) ];
+      named = elim (c .if-byte-self .came) [ then-byte-self w ↦ ap (λ (s : BitWriter). name (s .bytes)) (w .self-is) | else-byte-self w ↦ ap (λ (s : BitWriter). name (s .bytes)) (w .self-is) ];
     }
