@@ -1,7 +1,8 @@
 -- Terms as they stand in a file, whatever their sorts: a kind, and the parts behind it.
+use mathlib.Core.Path.{_≡_}
 use mathlib.Core.Bool.{true, false}
 use mathlib.Core.List.{List, [], _∷_}
-use Prim.Native.Nat.{ℕ, zero, suc}
+use Prim.Native.Nat.{ℕ, zero, suc, _≤_}
 use lib.Dec.{leb}
 use lib.ListN.{length, getD}
 use Rattle.std.specs.declared.option.Option.{Option}
@@ -10,6 +11,7 @@ use Rattle.definitions.specs.Lists.{bind}
 use Rattle.definitions.specs.Alg.{Alg}
 use Rattle.definitions.specs.Systems.{Kind, parameter, variable, value, operation, not, and, or, equal, Term, Terms, node, none, more}
 use Rattle.definitions.specs.Reading.{Step, next, stop, take}
+use Rattle.definitions.specs.ReadSystem.{Scope, Sorted, readTerm}
 
 -- what stands in a file from a place on, and the place behind it
 abbrev pub Shape : Type 0 → Type 0
@@ -70,3 +72,7 @@ behind (Some x) = Some (x .1)
 -- the term of depth at most d that stands at the place p
 abbrev pub standing : Alg → ℕ → List ℕ → ℕ → Option Term
 standing a d f p = what (shape a d f p)
+
+-- where a reading of a system reads a term, the same term stands, up to the same place
+abbrev pub ReadStands : Alg → ℕ → List ℕ → ℕ → Type 0
+ReadStands a d f p = (c : Scope) (need : Option ℕ) (x : Sorted) (q : ℕ) → length f ≤ 65536 → readTerm a c d need f p ≡ next x q → shape a d f p ≡ Some (x .the-term, q)

@@ -4,7 +4,7 @@ ghost use Prim.Native.Nat.{_-_, _^_, _<_, _≤_};
 ghost use Rattle.std.specs.Options.{Cases as BySome};
 ghost use Rattle.std.specs.declared.option.Option.the-variants.{None, Some};
 ghost use Rattle.definitions.specs.Lists.{bind};
-ghost use Rattle.terms.specs.Shapes.{fieldAt, opening, row, shape, what, behind, standing};
+ghost use Rattle.terms.specs.Shapes.{fieldAt, opening, row, shape, what, behind, standing, ReadStands};
 ghost use Rattle.terms.specs.Shown.{fieldOf, openingOf, Apt, partsOf, termOf, PartsIn, In};
 use algebra::Algebra;
 use bits::BitReader;
@@ -149,7 +149,8 @@ fn open_term<G: Algebra>(alg: &G, view: View) -> Option<Opening>
 
 /// The place behind the term at the view, which has depth at most `depth`.
 pub fn end_of_term<G: Algebra>(alg: &G, view: View, depth: u8) -> Option<usize>
-    ensures { λ r. ⌜ r ≡ behind (shape (meaning (now (alg .entry))) depth (now (view .entry .bytes)) (view .entry .at)) ⌝ }
+    ensures reads { λ r. ⌜ r ≡ behind (shape (meaning (now (alg .entry))) depth (now (view .entry .bytes)) (view .entry .at)) ⌝ }
+    ensures accepted { λ _. ⌜ ReadStands (meaning (now (alg .entry))) depth (now (view .entry .bytes)) (view .entry .at) ⌝ }
 {
     if depth == 0 {
         return None;
