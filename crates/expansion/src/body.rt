@@ -42,7 +42,7 @@ fn meant<G: Algebra>(alg: &G, env: &Environment, file: &[u8], occurrence: Occurr
 // An any over the occurrences of a clause; the instances come as their tokens are written.
 fn write_clause<G: Algebra>(alg: &G, outline: &Outline, env: &Environment, file: &[u8], clause: ClauseAt, list: &mut FirstCome<Instance>, draft: &mut Draft) -> Option<usize> {
     draft.put(3, 3);
-    draft.put(clause.count.saturating_sub(1) as u32, 8);
+    draft.put(clause.count as u32 - 1, 8);
     let mut next = clause.next;
     for _k in 0..clause.count {
         let occurrence = open_occurrence(alg, outline, file, next)?;
@@ -104,7 +104,7 @@ fn write_quantified<G: Algebra>(alg: &G, outline: &Outline, header: Header, leve
     };
     let size = alg.size(quantified.sort)?;
     draft.put(token, 3);
-    draft.put(size.saturating_sub(1) as u32, 8);
+    draft.put(size.saturating_sub(1).min(255) as u32, 8);
     for value in 0..size.min(256) {
         let mut inner = env;
         inner.variables[level as usize] = Some((value & 0xff) as u8);
@@ -136,7 +136,7 @@ pub(crate) fn write_variable<G: Algebra>(alg: &G, outline: &Outline, file: &[u8]
         Sign::Greatest => 1,
     };
     draft.put(sign, 1);
-    draft.put(instance.equation as u32, 5);
+    draft.put((instance.equation as u32).min(31), 5);
     let body = open_body(alg, file, outline.bodies[i])?;
     write_quantified(alg, outline, header, 0, environment_of(instance, header.count), file, body, list, draft)
 }

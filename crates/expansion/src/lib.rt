@@ -36,7 +36,6 @@ pub struct Expansion {
 // The variables of all instances that come, the start's first; none where more come than the list has places.
 fn write_variables<G: Algebra>(alg: &G, outline: &Outline, file: &[u8], list: &mut FirstCome<Instance>, draft: &mut Draft) -> Option<()> {
     list.come(outline.start)?;
-    draft.put(0, 12);
     for k in 0..INSTANCES {
         let Some(instance) = list.get(k) else {
             return Some(());
@@ -46,15 +45,17 @@ fn write_variables<G: Algebra>(alg: &G, outline: &Outline, file: &[u8], list: &m
     Some(())
 }
 
-// The Boolean file in a buffer of its own.
-fn draft_file<G: Algebra>(alg: &G, outline: &Outline, file: &[u8], work: &mut [Instance], buffer: &mut [u8]) -> Result<Expansion, ExpandFault> {
+// The Boolean file as a draft.
+fn draft_file<G: Algebra>(alg: &G, outline: &Outline, file: &[u8], work: &mut [Instance], draft: &mut Draft) -> Result<Expansion, ExpandFault> {
     let places = work.len().min(INSTANCES);
     let mut list = FirstCome::new(&mut work[0..places]);
-    let mut draft = Draft::new(buffer);
-    let Some(()) = write_variables(alg, outline, file, &mut list, &mut draft) else {
+    let Some(()) = write_variables(alg, outline, file, &mut list, draft) else {
         return Err(ExpandFault::Refused(Reason::TooManyInstances));
     };
     let variables = list.len;
+    if variables == 0 || variables > 4096 {
+        return Err(ExpandFault::Refused(Reason::TooManyInstances));
+    }
     let Some(len) = draft.close(variables) else {
         return Err(ExpandFault::Refused(Reason::BooleanTooLong));
     };
@@ -75,12 +76,12 @@ pub fn expand<G: Algebra>(alg: &G, file: &[u8], work: &mut [Instance], out: &mut
     ensures { λ r. ⌜ Expands (now (out .entry)) (now (out .exit)) r ⌝ }
 {
     let outline = read(alg, file)?;
-    let mut buffer = [0u8; LONGEST_BOOLEAN];
-    let expansion = draft_file(alg, &outline, file, work, &mut buffer)?;
+    let mut draft = Draft::new();
+    let expansion = draft_file(alg, &outline, file, work, &mut draft)?;
     let len = expansion.len;
     if len > out.len() || len > LONGEST_BOOLEAN {
         return Err(ExpandFault::Refused(Reason::BooleanTooLong));
     }
-    copy(out, &buffer[0..len]);
+    copy(out, &draft.bytes[0..len]);
     Ok(expansion)
 }

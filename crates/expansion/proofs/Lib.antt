@@ -1,0 +1,4 @@
+pub mod Orders
+pub mod Drafting
+pub mod Coming
+pub mod Writing
