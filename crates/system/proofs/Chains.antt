@@ -34,12 +34,12 @@ pub wrapped : {A B : Type 0} (g : A → B) (m : Step A) → placed m ≡ placed 
 wrapped g (next x q) = refl
 wrapped g (stop r q) = refl
 
-at-item : {X Y : Type 0} (g : X → Y) (xs : List X) (i : ℕ) (x : X) → i < length xs → x ≡ getD xs i x → Some (g x) ≡ at (map g xs) i
+pub at-item : {X Y : Type 0} (g : X → Y) (xs : List X) (i : ℕ) (x : X) → i < length xs → x ≡ getD xs i x → Some (g x) ≡ at (map g xs) i
 at-item g [] i x h e = absurd (omega arith)
 at-item g (y ∷ xs) zero x h e = ap (λ z. Some (g z)) e
 at-item g (y ∷ xs) (suc i) x h e = at-item g xs i x (omega arith) e
 
-at-none : {X Y : Type 0} (g : X → Y) (xs : List X) (i : ℕ) → length xs ≤ i → None ≡ at (map g xs) i
+pub at-none : {X Y : Type 0} (g : X → Y) (xs : List X) (i : ℕ) → length xs ≤ i → None ≡ at (map g xs) i
 at-none g [] i h = refl
 at-none g (y ∷ xs) zero h = absurd (omega arith)
 at-none g (y ∷ xs) (suc i) h = at-none g xs i (omega arith)

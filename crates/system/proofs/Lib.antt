@@ -6,3 +6,4 @@ pub mod Chains
 pub mod Behind
 pub mod Records
 pub mod Outlines
+pub mod Found

@@ -70,7 +70,7 @@ each-tells {X} {B} g r f t (x ∷ xs) p ys q e = go (λ u zs v. each-tells g r f
     go ih (next y u) k e = rest y (t x p y u k) (one-by-one r xs f u) (ih u) e
     go ih (stop s u) k e = let z : _≡_ {A = ℕ} 0 1 = cc in absurd (omega arith)
 
-getD-front : (ps : List ℕ) (n i : ℕ) → i < n → getD (front n ps) i 0 ≡ getD ps i 0
+pub getD-front : (ps : List ℕ) (n i : ℕ) → i < n → getD (front n ps) i 0 ≡ getD ps i 0
 getD-front ps zero i h = absurd (omega arith)
 getD-front [] (suc n) i h = refl
 getD-front (p ∷ ps) (suc n) zero h = refl

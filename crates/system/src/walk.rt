@@ -1,44 +1,29 @@
 //! Walking an accepted file: bodies, clauses and occurrences, with their terms as places.
-ghost use Prim.Native.Nat.{_<_, _≤_};
+ghost use mathlib.Core.Path.{_≡_};
+ghost use Prim.Native.Nat.{ℕ, _<_, _≤_};
+ghost use lib.ListN.{length, take as front};
+ghost use Rattle.std.specs.Options.{Cases as BySome};
+ghost use Rattle.system.specs.Bodies.{padded};
+ghost use Rattle.system.specs.Files.{keptHeader};
+ghost use Rattle.system.specs.Whole.{keptHeaders};
+ghost use Rattle.system.specs.Walks.{termPlaces, clauseEnd, argumentsOf, BodyPlaces, ClausePlaces, OccurrencePlaces, BodyFound, ClauseFound, OccurrenceFound, EndFound};
 use crate::DEPTH;
+use crate::header::Header;
+pub use crate::places::ArgumentsAt;
+pub use crate::places::BodyAt;
+pub use crate::places::ClauseAt;
+pub use crate::places::OccurrenceAt;
 use crate::reading::Outline;
 use algebra::Algebra;
 use bits::BitReader;
 use terms::view::View;
 use terms::view::end_of_term;
 
-/// A body's opening: the place of its h, its clause count, and the place of the first clause.
-#[derive(Clone, Copy)]
-pub struct BodyAt {
-    pub h: usize,
-    pub count: u8,
-    pub next: usize,
-    ghost few: { count ≤ 15 },
-}
-
-/// A clause's opening: the place of its guard, its occurrence count, and the place of the first occurrence.
-#[derive(Clone, Copy)]
-pub struct ClauseAt {
-    pub guard: usize,
-    pub count: u8,
-    pub next: usize,
-    ghost some: { 1 ≤ count },
-    ghost few: { count ≤ 8 },
-}
-
-/// An occurrence: its target, the places of its arguments, and the place behind it.
-#[derive(Clone, Copy)]
-pub struct OccurrenceAt {
-    pub target: u8,
-    pub count: u8,
-    pub arguments: [usize; 15],
-    pub next: usize,
-    ghost present: { target < 31 },
-    ghost few: { count ≤ 15 },
-}
-
 /// The opening of the body at the place.
-pub fn open_body<G: Algebra>(alg: &G, bytes: &[u8], at: usize) -> Option<BodyAt> {
+pub fn open_body<G: Algebra>(alg: &G, bytes: &[u8], at: usize) -> Option<BodyAt>
+    ensures places { λ r. ⌜ BodyPlaces (meaning (now (alg .entry))) (now (bytes .entry)) at r ⌝ }
+    ensures found { λ r. ⌜ BodyFound (meaning (now (alg .entry))) (now (bytes .entry)) at r ⌝ }
+{
     let end = end_of_term(alg, View { bytes, at }, DEPTH)?;
     let mut reader = BitReader { bytes, at: end };
     let count = reader.next(4)?;
@@ -50,7 +35,10 @@ pub fn open_body<G: Algebra>(alg: &G, bytes: &[u8], at: usize) -> Option<BodyAt>
 }
 
 /// The opening of the clause at the place.
-pub fn open_clause<G: Algebra>(alg: &G, bytes: &[u8], at: usize) -> Option<ClauseAt> {
+pub fn open_clause<G: Algebra>(alg: &G, bytes: &[u8], at: usize) -> Option<ClauseAt>
+    ensures places { λ r. ⌜ ClausePlaces (meaning (now (alg .entry))) (now (bytes .entry)) at r ⌝ }
+    ensures found { λ r. ⌜ ClauseFound (meaning (now (alg .entry))) (now (bytes .entry)) at r ⌝ }
+{
     let end = end_of_term(alg, View { bytes, at }, DEPTH)?;
     let mut reader = BitReader { bytes, at: end };
     let count = reader.next(3)?;
@@ -61,30 +49,45 @@ pub fn open_clause<G: Algebra>(alg: &G, bytes: &[u8], at: usize) -> Option<Claus
     })
 }
 
+// The places of the arguments for an equation's parameters, from the place on.
+fn arguments_at<G: Algebra>(alg: &G, header: Header, bytes: &[u8], at: usize) -> Option<ArgumentsAt>
+    ensures places { λ r. ⌜ argumentsOf (header .count) r ≡ termPlaces (meaning (now (alg .entry))) (header .count) (now (bytes .entry)) at ⌝ }
+    ensures zeros { λ r. ⌜ BySome r (Unit {0}) (λ x. (header .count ≡ length (front (header .count) (x .places))) × (x .places ≡ padded (front (header .count) (x .places)))) ⌝ }
+    ensures sorts { λ _. ⌜ header .count ≡ length (keptHeader header .sorts) ⌝ }
+{
+    let mut places = [0usize; 15];
+    let mut next = at;
+    for k in 0..header.count {
+        places[k as usize] = next;
+        next = end_of_term(alg, View { bytes, at: next }, DEPTH)?;
+    }
+    Some(ArgumentsAt { places, next })
+}
+
 /// The occurrence at the place.
 pub fn open_occurrence<G: Algebra>(
     alg: &G,
     outline: &Outline,
     bytes: &[u8],
     at: usize,
-) -> Option<OccurrenceAt> {
+) -> Option<OccurrenceAt>
+    ensures places { λ r. ⌜ OccurrencePlaces (meaning (now (alg .entry))) (keptHeaders (now (outline .entry))) (now (bytes .entry)) at r ⌝ }
+    ensures found { λ r. ⌜ OccurrenceFound (meaning (now (alg .entry))) (keptHeaders (now (outline .entry))) (now (bytes .entry)) at r ⌝ }
+{
     let mut reader = BitReader { bytes, at };
     let target = reader.next(5)?;
-    if target >= outline.count as u32 {
+    let headers = &outline.headers[0..outline.count as usize];
+    if target as usize >= headers.len() {
         return None;
     }
-    let count = outline.headers[target as usize].count;
-    let mut arguments = [0usize; 15];
-    let mut next = reader.at;
-    for k in 0..count {
-        arguments[k as usize] = next;
-        next = end_of_term(alg, View { bytes, at: next }, DEPTH)?;
-    }
+    let header = headers[target as usize];
+    let found = arguments_at(alg, header, bytes, reader.at)?;
+    let arguments = found.places;
     Some(OccurrenceAt {
         target: target as u8,
-        count,
+        count: header.count,
         arguments,
-        next,
+        next: found.next,
     })
 }
 
@@ -94,7 +97,10 @@ pub fn end_of_clause<G: Algebra>(
     outline: &Outline,
     bytes: &[u8],
     at: usize,
-) -> Option<usize> {
+) -> Option<usize>
+    ensures places { λ r. ⌜ r ≡ clauseEnd (meaning (now (alg .entry))) (keptHeaders (now (outline .entry))) (now (bytes .entry)) at ⌝ }
+    ensures found { λ r. ⌜ EndFound (meaning (now (alg .entry))) (keptHeaders (now (outline .entry))) (now (bytes .entry)) at r ⌝ }
+{
     let clause = open_clause(alg, bytes, at)?;
     let mut next = clause.next;
     for _k in 0..clause.count {
