@@ -103,10 +103,10 @@ close-over cs bs d bytes lc (over w l lf) n₁ =
     omega arith
 
 -- the count is put in front of a file that was closed
-pub close-any : (cs bs : List ℕ) (d : Draft) (g bytes : List ℕ) (n : ℕ) (r : Option ℕ) → areBits cs ≡ true → length cs ≡ 12 → Drafted bs d → d .long ≡ false → n ≡ (d .at + 7) / 8 →
-    g ≡ closed (d .bytes) (d .at) → BySome r ((8 * length g < 0 + 12) × (bytes ≡ g)) (λ q. (q ≡ 0 + 12) × (q ≤ 8 * length g) × (bytes ≡ overwritten g 0 cs)) → Ended (packed (cs ++ bs)) bytes (Some n)
-close-any cs bs d g bytes n None hc lc h w e k u =
+pub close-any : (cs ws bs : List ℕ) (d : Draft) (g bytes : List ℕ) (n : ℕ) (r : Option ℕ) → cs ≡ ws → areBits cs ≡ true → length cs ≡ 12 → Drafted bs d → d .long ≡ false → n ≡ (d .at + 7) / 8 →
+    g ≡ closed (d .bytes) (d .at) → BySome r ((8 * length g < 0 + 12) × (bytes ≡ g)) (λ q. (q ≡ 0 + 12) × (q ≤ 8 * length g) × (bytes ≡ overwritten g 0 ws)) → Ended (packed (cs ++ bs)) bytes (Some n)
+close-any cs ws bs d g bytes n None i hc lc h w e k u =
     let lg : length g ≡ length (d .bytes) = ap length k ∙ long (d .bytes) (d .at) (replicate (padding (d .at)) 0) in
     let ld : length (d .bytes) ≡ 65535 = wide bs d h in
     absurd (omega (arith, u .0))
-close-any cs bs d g bytes n (Some q) hc lc h w e k u = close-fits cs bs d bytes n hc lc h w e (u .2 ∙ ap (λ x. overwritten x 0 cs) k)
+close-any cs ws bs d g bytes n (Some q) i hc lc h w e k u = close-fits cs bs d bytes n hc lc h w e (u .2 ∙ ap₂ (λ x y. overwritten x 0 y) k (sym i))

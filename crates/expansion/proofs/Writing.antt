@@ -11,6 +11,7 @@ use Rattle.std.specs.Options.{Cases as BySome}
 use Rattle.std.specs.Orderings.{Decides}
 use Rattle.std.specs.Places.{At, Every as EveryPlace}
 use mathlib.Core.Bool.{Bool, true, false}
+use Rattle.definitions.specs.Lists.{is-some}
 use Rattle.definitions.specs.Bits.{bits}
 use Rattle.definitions.specs.Systems.{System, Quantifier, exists, forall}
 use Rattle.definitions.specs.Truth.{Instance}
@@ -20,6 +21,7 @@ use Rattle.system.specs.declared.instance.Instance.{Instance as Kept}
 use Rattle.expansion.specs.declared.draft.Draft.{Draft}
 use Rattle.expansion.specs.Drafts.{Drafted}
 use Rattle.expansion.specs.Instances.{kept, Apt, Listed, Begins, State, state, Stands, Numbered, After, Writes, WritesForm, WritesAll}
+use Rattle.expansion.specs.Bodies.{Leads}
 use Rattle.expansion.proofs.Coming.{no-place, came-before, comes-now}
 
 -- what comes first begins what has come after more
@@ -113,13 +115,42 @@ module _ (s : System) where
       (join [] (varsAll (forms ps)) (λ _. bits 8 n) (λ f. formsBits (renamedAll (forms ps) f)) (state items len d₁) (state items len d₂) z r (put-writes items len d₁ d₂ (bits 8 n) k) m))
 
   -- a variable's token
-  pub token-writes : (x : Instance) (items items′ : List Kept) (len len′ i : ℕ) (d d₁ d₂ : Draft) → ((places : ℕ) (ns : List Instance) → Listed s places ns items len → Numbered places ns x (Some i) (λ ms. Listed s places ms items′ len′)) →
-      ((bs : List ℕ) → Drafted bs d → Drafted (bs ++ bits 3 4) d₁) → ((v : ℕ) → (i < 4096 → v ≡ i) → (bs : List ℕ) → Drafted bs d₁ → Drafted (bs ++ bits 12 v) d₂) →
+  pub token-writes : (x : Instance) (items items′ : List Kept) (len len′ i v : ℕ) (d d₁ d₂ : Draft) → ((places : ℕ) (ns : List Instance) → Listed s places ns items len → Numbered places ns x (Some i) (λ ms. Listed s places ms items′ len′)) →
+      (i < 4096 → v ≡ i) → ((bs : List ℕ) → Drafted bs d → Drafted (bs ++ bits 3 4) d₁) → ((bs : List ℕ) → Drafted bs d₁ → Drafted (bs ++ bits 12 v) d₂) →
       WritesForm s (var x) (state items len d) (state items′ len′ d₂) true
-  token-writes x items items′ len len′ i d d₁ d₂ n h k places ns ms bs st b =
+  token-writes x items items′ len len′ i v d d₁ d₂ n w h k places ns ms bs st b =
       let c = n places ns (st .listed) in
-      let e : numberIn ms x ≡ i = c .2 ms b in
-      record { listed = c .0; drafted = subst (λ w. Drafted w d₂) (append-assoc bs (bits 3 4) (bits 12 (numberIn ms x))) (k (numberIn ms x) (λ _. e) (bs ++ bits 3 4) (h bs (st .drafted))) }
+      let e : v ≡ numberIn ms x = w (c .1) ∙ sym (c .2 ms b) in
+      record {
+        listed = c .0;
+        drafted = subst (λ u. Drafted (bs ++ (bits 3 4 ++ bits 12 u)) d₂) e (subst (λ u. Drafted u d₂) (append-assoc bs (bits 3 4) (bits 12 v)) (k (bs ++ bits 3 4) (h bs (st .drafted))));
+      }
+
+-- the answer is none
+pub none-writes : {X : Type 0} (s : System) (r : Option X) → r ≡ None → (xs : List Instance) (w : (Instance → ℕ) → List ℕ) (z z′ : State) → Writes s xs w z z′ false → Writes s xs w z z′ (is-some r)
+none-writes s r e xs w z z′ h = subst (λ o. Writes s xs w z z′ (is-some o)) (sym e) h
+
+pub none-leads : (s : System) (r : Option ℕ) → r ≡ None → (q : ℕ) (ps : List (Form Instance)) (z z′ : State) → WritesAll s ps z z′ false → Leads r q (WritesAll s ps z z′)
+none-leads s r e q ps z z′ h = subst (λ o. Leads o q (WritesAll s ps z z′)) (sym e) h
+
+pub none-all : {X : Type 0} (s : System) (r : Option X) → r ≡ None → (ps : List (Form Instance)) (z z′ : State) → WritesAll s ps z z′ false → WritesAll s ps z z′ (is-some r)
+none-all s r e ps z z′ h = subst (λ o. WritesAll s ps z z′ (is-some o)) (sym e) h
+
+-- it is there
+pub some-leads : (s : System) (r : Option ℕ) (q : ℕ) → r ≡ Some q → (ps : List (Form Instance)) (z z′ : State) → WritesAll s ps z z′ true → Leads r q (WritesAll s ps z z′)
+some-leads s r q e ps z z′ h = subst (λ o. Leads o q (WritesAll s ps z z′)) (sym e) (h, refl)
+
+pub leads-on : (s : System) (r : Option ℕ) (q : ℕ) (ps qs : List (Form Instance)) (z z₁ z′ : State) → Leads r q (WritesAll s ps z₁ z′) → ((b : Bool) → WritesAll s ps z₁ z′ b → WritesAll s qs z z′ b) →
+    Leads r q (WritesAll s qs z z′)
+leads-on s None q ps qs z z₁ z′ h k = k false h
+leads-on s (Some p) q ps qs z z₁ z′ h k = (k true (h .0), h .1)
+
+-- the same forms
+pub reforms : (s : System) (ps qs : List (Form Instance)) (z z′ : State) (r : Bool) → ps ≡ qs → WritesAll s ps z z′ r → WritesAll s qs z z′ r
+reforms s ps qs z z′ r e h = subst (λ l. WritesAll s l z z′ r) e h
+
+pub reform : (s : System) (p q : Form Instance) (z z′ : State) (r : Bool) → p ≡ q → WritesForm s p z z′ r → WritesForm s q z z′ r
+reform s p q z z′ r e h = subst (λ l. WritesForm s l z z′ r) e h
 
 -- what a first-come list told of an instance
 pub numbered : (s : System) (places : ℕ) (ns : List Instance) (x : Instance) (items items′ : List Kept) (len len′ : ℕ) (k : Kept) (r : Option ℕ) →

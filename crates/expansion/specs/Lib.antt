@@ -1,3 +1,4 @@
 pub mod Fronts
 pub mod Drafts
 pub mod Instances
+pub mod Bodies

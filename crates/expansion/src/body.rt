@@ -1,4 +1,26 @@
 //! The body of an instance as tokens.
+ghost use mathlib.Core.Path.{_≡_};
+ghost use mathlib.Core.List.{List, [], _∷_, _++_, map};
+ghost use Prim.Native.Nat.{ℕ, _≤_, _<_};
+ghost use lib.ListN.{length, drop};
+ghost use Rattle.std.specs.Options.{Cases as BySome};
+ghost use Rattle.std.specs.declared.option.Option.the-variants.{None, Some};
+ghost use Rattle.definitions.specs.Lists.{or-else, is-some};
+ghost use Rattle.definitions.specs.Reading.{next as readTo, repeated};
+ghost use Rattle.definitions.specs.ReadSystem.{Scope, greatestDepth, readOccurrence, readClause};
+ghost use Rattle.definitions.specs.Systems.{Term as Tree, Occurrence, Clause, Equation, System};
+ghost use Rattle.definitions.specs.Truth.{sizeOf, Instance as Pair};
+ghost use Rattle.definitions.specs.Truth.{meant as meantBy};
+ghost use Rattle.definitions.specs.Values.{valueOf, holds};
+ghost use Rattle.definitions.specs.Algebras.{truth};
+ghost use Rattle.definitions.specs.Fits.{headerOf};
+ghost use Rattle.definitions.specs.Boolean.{var, vars, renamed, spread, clauseForm, insideForm, form};
+ghost use Rattle.terms.specs.Shapes.{standing};
+ghost use Rattle.system.specs.Files.{keptHeader};
+ghost use Rattle.system.specs.Whole.{keptHeaders, Outlined};
+ghost use Rattle.system.specs.Walks.{BodyOf, ClauseOf, OccurrenceOf};
+ghost use Rattle.expansion.specs.Instances.{kept, Apt, Listed, Numbered, state, WritesForm, WritesAll};
+ghost use Rattle.expansion.specs.Bodies.{Knows, Within, holding as holdingOf, tokens, tokenOf, Leads, WritesVariable};
 use crate::draft::Draft;
 use algebra::Algebra;
 use firstcome::FirstCome;
@@ -21,55 +43,112 @@ use system::walk::open_clause;
 use system::walk::open_occurrence;
 
 // The value of the term at the place; every term of an accepted file has one where all is known.
-fn value_at<G: Algebra>(alg: &G, env: &Environment, file: &[u8], at: usize) -> u8 {
+fn value_at<G: Algebra>(alg: &G, env: &Environment, file: &[u8], at: usize) -> u8
+    ensures { λ r. ⌜ ((ps vs : List ℕ) (t : Tree) → Knows ps vs (now (env .entry)) → standing (meaning (now (alg .entry))) greatestDepth (now (file .entry)) at ≡ Some t → r ≡ or-else (valueOf (meaning (now (alg .entry))) ps vs t) 0) ⌝ }
+{
     match known_value(alg, env, View { bytes: file, at }, DEPTH) {
         Some(value) => value,
         None => 0,
     }
 }
 
+// Whether the term at the place holds.
+fn holds_at<G: Algebra>(alg: &G, env: &Environment, file: &[u8], at: usize) -> bool
+    ensures { λ r. ⌜ ((ps vs : List ℕ) (t : Tree) → Knows ps vs (now (env .entry)) → standing (meaning (now (alg .entry))) greatestDepth (now (file .entry)) at ≡ Some t → r ≡ holds (meaning (now (alg .entry))) ps vs t) ⌝ }
+{
+    value_at(alg, env, file, at) == 1
+}
+
+fn truth_of(holding: bool) -> u8
+    ensures { λ r. ⌜ r ≡ truth holding ⌝ }
+{
+    if holding { 1 } else { 0 }
+}
+
 // The instance that an occurrence means.
-fn meant<G: Algebra>(alg: &G, env: &Environment, file: &[u8], occurrence: OccurrenceAt) -> Instance {
+fn meant<G: Algebra>(alg: &G, env: &Environment, file: &[u8], occurrence: OccurrenceAt) -> Instance
+    ensures { λ r. ⌜ ((ps vs : List ℕ) (o : Occurrence) (q : ℕ) → Knows ps vs (now (env .entry)) → OccurrenceOf (meaning (now (alg .entry))) (now (file .entry)) o q occurrence → r ≡ kept (meantBy (meaning (now (alg .entry))) ps vs o)) ⌝ }
+{
     let mut values = [0u8; 15];
     for k in 0..occurrence.count {
-        if k < 15 {
-            values[k as usize] = value_at(alg, env, file, occurrence.arguments[k as usize]);
-        }
+        values[k as usize] = value_at(alg, env, file, occurrence.arguments[k as usize]);
     }
     Instance { equation: occurrence.target, values }
 }
 
-// An any over the occurrences of a clause; the instances come as their tokens are written.
-fn write_clause<G: Algebra>(alg: &G, outline: &Outline, env: &Environment, file: &[u8], clause: ClauseAt, list: &mut FirstCome<Instance>, draft: &mut Draft) -> Option<usize> {
-    draft.put(3, 3);
-    draft.put(clause.count as u32 - 1, 8);
+// The number of an instance, which comes if it is new; none where there is no place for it.
+fn number_of(list: &mut FirstCome<Instance>, instance: Instance) -> Option<usize>
+    ensures { λ r. ⌜ ((s : System) (places : ℕ) (ns : List Pair) (x : Pair) → Listed s places ns (now (now (list .entry) .items)) (now (list .entry) .len) → Apt s x → kept x ≡ instance → Numbered places ns x r (λ ms. Listed s places ms (now (now (list .exit) .items)) (now (list .exit) .len))) ⌝ }
+{
+    list.come(instance)
+}
+
+// A variable's token; the instance comes as it is written.
+fn write_token(instance: Instance, list: &mut FirstCome<Instance>, draft: &mut Draft) -> Option<()>
+    ensures { λ r. ⌜ ((s : System) (x : Pair) → Apt s x → kept x ≡ instance → WritesForm s (var x) (state (now (now (list .entry) .items)) (now (list .entry) .len) (now (draft .entry))) (state (now (now (list .exit) .items)) (now (list .exit) .len) (now (draft .exit))) (is-some r)) ⌝ }
+{
+    let number = number_of(list, instance)?;
+    draft.put(4, 3);
+    draft.put((number % 4096) as u32, 12);
+    Some(())
+}
+
+// The tokens of a clause's occurrences, and the place behind them.
+fn write_occurrences<G: Algebra>(alg: &G, outline: &Outline, env: &Environment, file: &[u8], clause: ClauseAt, list: &mut FirstCome<Instance>, draft: &mut Draft) -> Option<usize>
+    ensures { λ r. ⌜ ((s : System) (ps vs : List ℕ) (c : Scope) (k : Clause) (q : ℕ) → Within s ps vs (now (outline .entry)) (now (file .entry)) (now (env .entry)) → ClauseOf (meaning (now (alg .entry))) (keptHeaders (now (outline .entry))) c (now (file .entry)) k q clause → Leads r q (WritesAll s (tokens (meaning (now (alg .entry))) ps vs k) (state (now (now (list .entry) .items)) (now (list .entry) .len) (now (draft .entry))) (state (now (now (list .exit) .items)) (now (list .exit) .len) (now (draft .exit))))) ⌝ }
+{
     let mut next = clause.next;
     for _k in 0..clause.count {
         let occurrence = open_occurrence(alg, outline, file, next)?;
-        let number = list.come(meant(alg, env, file, occurrence))?;
-        draft.put(4, 3);
-        draft.put(number.min(4095) as u32, 12);
+        write_token(meant(alg, env, file, occurrence), list, draft)?;
         next = occurrence.next;
     }
     Some(next)
 }
 
+// The clause at the place where its guard holds: an any over its occurrences. The place behind it.
+fn write_clause<G: Algebra>(alg: &G, outline: &Outline, env: &Environment, file: &[u8], at: usize, list: &mut FirstCome<Instance>, draft: &mut Draft) -> Option<usize>
+    ensures { λ r. ⌜ ((s : System) (ps vs : List ℕ) (c : Scope) (k : Clause) (q : ℕ) → Within s ps vs (now (outline .entry)) (now (file .entry)) (now (env .entry)) → readClause (meaning (now (alg .entry))) (keptHeaders (now (outline .entry))) c (now (file .entry)) at ≡ readTo k q → Leads r q (WritesAll s (map (clauseForm (meaning (now (alg .entry))) ps vs) (holdingOf (meaning (now (alg .entry))) ps vs (k ∷ []))) (state (now (now (list .entry) .items)) (now (list .entry) .len) (now (draft .entry))) (state (now (now (list .exit) .items)) (now (list .exit) .len) (now (draft .exit))))) ⌝ }
+{
+    let clause = open_clause(alg, file, at)?;
+    if !holds_at(alg, env, file, clause.guard) {
+        return end_of_clause(alg, outline, file, at);
+    }
+    draft.put(3, 3);
+    draft.put(clause.count as u32 - 1, 8);
+    write_occurrences(alg, outline, env, file, clause, list, draft)
+}
+
 // How many of the clauses have a guard that holds.
-fn count_holding<G: Algebra>(alg: &G, outline: &Outline, env: &Environment, file: &[u8], body: BodyAt) -> Option<u8> {
+fn count_holding<G: Algebra>(alg: &G, outline: &Outline, env: &Environment, file: &[u8], body: BodyAt) -> Option<u8>
+    ensures { λ r. ⌜ ((s : System) (ps vs : List ℕ) (e : Equation) (q : ℕ) → Within s ps vs (now (outline .entry)) (now (file .entry)) (now (env .entry)) → BodyOf (meaning (now (alg .entry))) (keptHeaders (now (outline .entry))) (headerOf e) (now (file .entry)) e q body → r ≡ Some (length (holdingOf (meaning (now (alg .entry))) ps vs (e .clauses)))) ⌝ }
+{
     let mut next = body.next;
     let mut count = 0u8;
     for _k in 0..body.count {
-        if value_at(alg, env, file, next) == 1 && count < 255 {
-            count += 1;
-        }
+        let clause = open_clause(alg, file, next)?;
+        count += truth_of(holds_at(alg, env, file, clause.guard));
         next = end_of_clause(alg, outline, file, next)?;
     }
     Some(count)
 }
 
+// The clauses whose guard holds.
+fn write_clauses<G: Algebra>(alg: &G, outline: &Outline, env: &Environment, file: &[u8], body: BodyAt, list: &mut FirstCome<Instance>, draft: &mut Draft) -> Option<()>
+    ensures { λ r. ⌜ ((s : System) (ps vs : List ℕ) (e : Equation) (q : ℕ) → Within s ps vs (now (outline .entry)) (now (file .entry)) (now (env .entry)) → BodyOf (meaning (now (alg .entry))) (keptHeaders (now (outline .entry))) (headerOf e) (now (file .entry)) e q body → WritesAll s (map (clauseForm (meaning (now (alg .entry))) ps vs) (holdingOf (meaning (now (alg .entry))) ps vs (e .clauses))) (state (now (now (list .entry) .items)) (now (list .entry) .len) (now (draft .entry))) (state (now (now (list .exit) .items)) (now (list .exit) .len) (now (draft .exit))) (is-some r)) ⌝ }
+{
+    let mut next = body.next;
+    for _k in 0..body.count {
+        next = write_clause(alg, outline, env, file, next, list, draft)?;
+    }
+    Some(())
+}
+
 // False if h fails, true if no guard holds, else all over the clauses whose guard holds.
-fn write_inside<G: Algebra>(alg: &G, outline: &Outline, env: &Environment, file: &[u8], body: BodyAt, list: &mut FirstCome<Instance>, draft: &mut Draft) -> Option<()> {
-    if value_at(alg, env, file, body.h) != 1 {
+fn write_inside<G: Algebra>(alg: &G, outline: &Outline, env: &Environment, file: &[u8], body: BodyAt, list: &mut FirstCome<Instance>, draft: &mut Draft) -> Option<()>
+    ensures { λ r. ⌜ ((s : System) (ps vs : List ℕ) (e : Equation) (q : ℕ) → Within s ps vs (now (outline .entry)) (now (file .entry)) (now (env .entry)) → BodyOf (meaning (now (alg .entry))) (keptHeaders (now (outline .entry))) (headerOf e) (now (file .entry)) e q body → WritesForm s (insideForm (meaning (now (alg .entry))) e ps vs) (state (now (now (list .entry) .items)) (now (list .entry) .len) (now (draft .entry))) (state (now (now (list .exit) .items)) (now (list .exit) .len) (now (draft .exit))) (is-some r)) ⌝ }
+{
+    if !holds_at(alg, env, file, body.h) {
         draft.put(0, 3);
         return Some(());
     }
@@ -80,52 +159,65 @@ fn write_inside<G: Algebra>(alg: &G, outline: &Outline, env: &Environment, file:
     }
     draft.put(2, 3);
     draft.put(holding as u32 - 1, 8);
-    let mut next = body.next;
-    for _k in 0..body.count {
-        if value_at(alg, env, file, next) == 1 {
-            let clause = open_clause(alg, file, next)?;
-            next = write_clause(alg, outline, env, file, clause, list, draft)?;
-        } else {
-            next = end_of_clause(alg, outline, file, next)?;
-        }
+    write_clauses(alg, outline, env, file, body, list, draft)
+}
+
+// The number of values of a sort.
+fn size_of<G: Algebra>(alg: &G, sort: u8) -> u16
+    ensures value { λ r. ⌜ r ≡ sizeOf (meaning (now (alg .entry))) sort ⌝ }
+    ensures few { λ r. ⌜ r ≤ 256 ⌝ }
+{
+    match alg.size(sort) {
+        Some(size) => size,
+        None => 0,
     }
-    Some(())
+}
+
+// The token of a quantifier: all or any.
+fn token(quantifier: Quantifier) -> u32
+    ensures { λ r. ⌜ r ≡ tokenOf quantifier ⌝ }
+{
+    match quantifier {
+        Quantifier::ForAll => 2,
+        Quantifier::Exists => 3,
+    }
 }
 
 // All or any over the values of each quantified variable from the one numbered `level` on, ascending.
-fn write_quantified<G: Algebra>(alg: &G, outline: &Outline, header: Header, level: u8, env: Environment, file: &[u8], body: BodyAt, list: &mut FirstCome<Instance>, draft: &mut Draft) -> Option<()> {
+fn write_quantified<G: Algebra>(alg: &G, outline: &Outline, header: Header, level: u8, env: Environment, file: &[u8], body: BodyAt, list: &mut FirstCome<Instance>, draft: &mut Draft) -> Option<()>
+    ensures { λ r. ⌜ ((s : System) (ps vs : List ℕ) (e : Equation) (q : ℕ) → Within s ps vs (now (outline .entry)) (now (file .entry)) env → BodyOf (meaning (now (alg .entry))) (keptHeaders (now (outline .entry))) (headerOf e) (now (file .entry)) e q body → keptHeader header ≡ headerOf e → level ≡ length vs → WritesForm s (spread (meaning (now (alg .entry))) (drop level (e .quantified)) vs (insideForm (meaning (now (alg .entry))) e ps)) (state (now (now (list .entry) .items)) (now (list .entry) .len) (now (draft .entry))) (state (now (now (list .exit) .items)) (now (list .exit) .len) (now (draft .exit))) (is-some r)) ⌝ }
+{
     if level >= header.number {
         return write_inside(alg, outline, &env, file, body, list, draft);
     }
     let quantified = header.quantified[level as usize];
-    let token = match quantified.quantifier {
-        Quantifier::ForAll => 2,
-        Quantifier::Exists => 3,
-    };
-    let size = alg.size(quantified.sort)?;
-    draft.put(token, 3);
-    draft.put(size.saturating_sub(1).min(255) as u32, 8);
-    for value in 0..size.min(256) {
+    let size = size_of(alg, quantified.sort);
+    draft.put(token(quantified.quantifier), 3);
+    draft.put(size.saturating_sub(1) as u32, 8);
+    for value in 0..size {
         let mut inner = env;
-        inner.variables[level as usize] = Some((value & 0xff) as u8);
+        inner.variables[level as usize] = Some((value % 256) as u8);
         write_quantified(alg, outline, header, level + 1, inner, file, body, list, draft)?;
     }
     Some(())
 }
 
 // The parameters' values, and nothing of the quantified variables.
-fn environment_of(instance: Instance, count: u8) -> Environment {
+fn environment_of(instance: Instance, count: u8) -> Environment
+    requires { ⌜ count ≤ 15 ⌝ }
+    ensures { λ r. ⌜ ((x : Pair) → kept x ≡ instance → length (x .1) ≡ count → Knows (x .1) [] r) ⌝ }
+{
     let mut env = Environment::unknown();
     for k in 0..count {
-        if k < 15 {
-            env.parameters[k as usize] = Some(instance.values[k as usize]);
-        }
+        env.parameters[k as usize] = Some(instance.values[k as usize]);
     }
     env
 }
 
 // The variable of an instance: its sign, its rank and its body; none where an instance comes for which there is no place.
-pub(crate) fn write_variable<G: Algebra>(alg: &G, outline: &Outline, file: &[u8], instance: Instance, list: &mut FirstCome<Instance>, draft: &mut Draft) -> Option<()> {
+pub(crate) fn write_variable<G: Algebra>(alg: &G, outline: &Outline, file: &[u8], instance: Instance, list: &mut FirstCome<Instance>, draft: &mut Draft) -> Option<()>
+    ensures { λ r. ⌜ ((s : System) (x : Pair) → Outlined (meaning (now (alg .entry))) (now (file .entry)) s (now (outline .entry)) → length (now (file .entry)) ≤ 65536 → Apt s x → kept x ≡ instance → WritesVariable (meaning (now (alg .entry))) s x (state (now (now (list .entry) .items)) (now (list .entry) .len) (now (draft .entry))) (state (now (now (list .exit) .items)) (now (list .exit) .len) (now (draft .exit))) (is-some r)) ⌝ }
+{
     if instance.equation >= outline.count {
         return None;
     }
@@ -136,7 +228,7 @@ pub(crate) fn write_variable<G: Algebra>(alg: &G, outline: &Outline, file: &[u8]
         Sign::Greatest => 1,
     };
     draft.put(sign, 1);
-    draft.put((instance.equation as u32).min(31), 5);
+    draft.put(instance.equation as u32, 5);
     let body = open_body(alg, file, outline.bodies[i])?;
     write_quantified(alg, outline, header, 0, environment_of(instance, header.count), file, body, list, draft)
 }

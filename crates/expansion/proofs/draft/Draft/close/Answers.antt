@@ -15,4 +15,4 @@ returns-then-self c bs cs e h = close-over cs bs (c .args .self .now) (c .args .
 
 pub returns : need.returns
 returns c bs cs e h = let k = c .put-at-behind in let m = c .close-at-len in
-    close-any cs bs (c .args .self .now) (m .last .bytes) (k .last .bytes) (m .result) (k .result) (ap areBits e ∙ bits-are 12 (c .args .variables - 1)) (ap length e ∙ length-bits 12 (c .args .variables - 1)) h (c .if-self .left) (m .ensures .count) (m .ensures .padded) ?
+    close-any cs (bits 12 (c .args .variables - 1)) bs (c .args .self .now) (m .last .bytes) (k .last .bytes) (m .result) (k .result) e (ap areBits e ∙ bits-are 12 (c .args .variables - 1)) (ap length e ∙ length-bits 12 (c .args .variables - 1)) h (c .if-self .left) (m .ensures .count) (m .ensures .padded) (k .ensures)

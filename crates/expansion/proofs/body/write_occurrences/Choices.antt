@@ -1,0 +1,22 @@
+use mathlib.Core.Path.{_≡_}
+use mathlib.Core.List.{List, [], _∷_}
+use Prim.Native.Nat.{ℕ, _-_}
+use Rattle.definitions.specs.Systems.{Occurrence, System}
+use Rattle.definitions.specs.Reading.{next, repeated}
+use Rattle.definitions.specs.ReadSystem.{Scope, readOccurrence}
+use Rattle.definitions.specs.Truth.{meant}
+use Rattle.definitions.specs.Boolean.{var}
+use Rattle.system.specs.Whole.{keptHeaders}
+use Rattle.expansion.specs.Instances.{state}
+use Rattle.expansion.specs.Bodies.{Within}
+use Rattle.expansion.proofs.Turns.{Goes}
+use Rattle.expansion.proofs.body.write_occurrences.Given as given
+
+abbrev pub Inv-loop-k : given.InvT-loop-k
+Inv-loop-k g l =
+    let a = g .G·Algebra .meaning (l .alg) in
+    let hs = keptHeaders (l .outline) in
+    (s : System) (ps vs : List ℕ) (c : Scope) (os : List Occurrence) (q : ℕ) → Within s ps vs (l .outline) (l .file) (l .env) →
+    repeated (readOccurrence a hs c) (l .-k-end) (l .file) (l .entry .next) ≡ next os q →
+    Goes (readOccurrence a hs c) s (λ o. var (meant a ps vs o) ∷ []) os (l .-k-end - l .-k) (l .file) (l .next) q
+    (state (l .entry .list .items .now) (l .entry .list .len) (l .entry .draft)) (state (l .list .items .now) (l .list .len) (l .draft))
