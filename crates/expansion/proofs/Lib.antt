@@ -6,3 +6,4 @@ pub mod Writing
 pub mod Turns
 pub mod Apts
 pub mod Holding
+pub mod Levels

@@ -152,6 +152,9 @@ reforms s ps qs z z′ r e h = subst (λ l. WritesAll s l z z′ r) e h
 pub reform : (s : System) (p q : Form Instance) (z z′ : State) (r : Bool) → p ≡ q → WritesForm s p z z′ r → WritesForm s q z z′ r
 reform s p q z z′ r e h = subst (λ l. WritesForm s l z z′ r) e h
 
+pub none-form : {X : Type 0} (s : System) (r : Option X) → r ≡ None → (p : Form Instance) (z z′ : State) → WritesForm s p z z′ false → WritesForm s p z z′ (is-some r)
+none-form s r e p z z′ h = subst (λ o. WritesForm s p z z′ (is-some o)) (sym e) h
+
 -- what a first-come list told of an instance
 pub numbered : (s : System) (places : ℕ) (ns : List Instance) (x : Instance) (items items′ : List Kept) (len len′ : ℕ) (k : Kept) (r : Option ℕ) →
     BySome r ((len ≡ length items) × (len′ ≡ len) × (items′ ≡ items) × EveryPlace (λ y. Decides false (y ≡ k)) items 0 len) (λ _. Unit {0}) →

@@ -1,11 +1,11 @@
 //! The body of an instance as tokens.
 ghost use mathlib.Core.Path.{_≡_};
 ghost use mathlib.Core.List.{List, [], _∷_, _++_, map};
-ghost use Prim.Native.Nat.{ℕ, _≤_, _<_};
+ghost use Prim.Native.Nat.{ℕ, _+_, _-_, _≤_, _<_};
 ghost use lib.ListN.{length, drop};
 ghost use Rattle.std.specs.Options.{Cases as BySome};
 ghost use Rattle.std.specs.declared.option.Option.the-variants.{None, Some};
-ghost use Rattle.definitions.specs.Lists.{or-else, is-some};
+ghost use Rattle.definitions.specs.Lists.{or-else, is-some, at};
 ghost use Rattle.definitions.specs.Reading.{next as readTo, repeated};
 ghost use Rattle.definitions.specs.ReadSystem.{Scope, greatestDepth, readOccurrence, readClause};
 ghost use Rattle.definitions.specs.Systems.{Term as Tree, Occurrence, Clause, Equation, System};
@@ -16,7 +16,9 @@ ghost use Rattle.definitions.specs.Algebras.{truth};
 ghost use Rattle.definitions.specs.Fits.{headerOf};
 ghost use Rattle.definitions.specs.Boolean.{var, vars, renamed, spread, clauseForm, insideForm, form};
 ghost use Rattle.terms.specs.Shapes.{standing};
-ghost use Rattle.system.specs.Files.{keptHeader};
+ghost use Rattle.definitions.specs.Bits.{bits as bitsOf};
+ghost use Rattle.definitions.specs.Written.{signBits};
+ghost use Rattle.system.specs.Files.{keptHeader, keptQuantified, keptSign};
 ghost use Rattle.system.specs.Whole.{keptHeaders, Outlined};
 ghost use Rattle.system.specs.Walks.{BodyOf, ClauseOf, OccurrenceOf};
 ghost use Rattle.expansion.specs.Instances.{kept, Apt, Listed, Numbered, state, WritesForm, WritesAll};
@@ -26,6 +28,7 @@ use algebra::Algebra;
 use firstcome::FirstCome;
 use system::DEPTH;
 use system::header::Header;
+use system::header::Quantified;
 use system::header::Quantifier;
 use system::header::Sign;
 use system::instance::Instance;
@@ -77,7 +80,7 @@ fn meant<G: Algebra>(alg: &G, env: &Environment, file: &[u8], occurrence: Occurr
 }
 
 // The number of an instance, which comes if it is new; none where there is no place for it.
-fn number_of(list: &mut FirstCome<Instance>, instance: Instance) -> Option<usize>
+pub(crate) fn number_of(list: &mut FirstCome<Instance>, instance: Instance) -> Option<usize>
     ensures { λ r. ⌜ ((s : System) (places : ℕ) (ns : List Pair) (x : Pair) → Listed s places ns (now (now (list .entry) .items)) (now (list .entry) .len) → Apt s x → kept x ≡ instance → Numbered places ns x r (λ ms. Listed s places ms (now (now (list .exit) .items)) (now (list .exit) .len))) ⌝ }
 {
     list.come(instance)
@@ -173,14 +176,29 @@ fn size_of<G: Algebra>(alg: &G, sort: u8) -> u16
     }
 }
 
+fn less_one(n: u16) -> u32
+    ensures { λ r. ⌜ r ≡ n - 1 ⌝ }
+{
+    if n == 0 { 0 } else { n as u32 - 1 }
+}
+
 // The token of a quantifier: all or any.
 fn token(quantifier: Quantifier) -> u32
-    ensures { λ r. ⌜ r ≡ tokenOf quantifier ⌝ }
+    ensures value { λ r. ⌜ r ≡ tokenOf quantifier ⌝ }
+    ensures small { λ r. ⌜ r < 8 ⌝ }
 {
     match quantifier {
         Quantifier::ForAll => 2,
         Quantifier::Exists => 3,
     }
+}
+
+// The quantified variable numbered `level`.
+fn quantified_at(header: Header, level: u8) -> Quantified
+    requires { ⌜ level < header .number ⌝ }
+    ensures { λ r. ⌜ ((e : Equation) → keptHeader header ≡ headerOf e → drop level (e .quantified) ≡ keptQuantified r ∷ drop (level + 1) (e .quantified)) ⌝ }
+{
+    header.quantified[level as usize]
 }
 
 // All or any over the values of each quantified variable from the one numbered `level` on, ascending.
@@ -190,10 +208,10 @@ fn write_quantified<G: Algebra>(alg: &G, outline: &Outline, header: Header, leve
     if level >= header.number {
         return write_inside(alg, outline, &env, file, body, list, draft);
     }
-    let quantified = header.quantified[level as usize];
+    let quantified = quantified_at(header, level);
     let size = size_of(alg, quantified.sort);
     draft.put(token(quantified.quantifier), 3);
-    draft.put(size.saturating_sub(1) as u32, 8);
+    draft.put(less_one(size), 8);
     for value in 0..size {
         let mut inner = env;
         inner.variables[level as usize] = Some((value % 256) as u8);
@@ -214,6 +232,32 @@ fn environment_of(instance: Instance, count: u8) -> Environment
     env
 }
 
+// The header of an equation.
+fn header_at(outline: &Outline, i: u8) -> Header
+    requires { ⌜ i < now outline .count ⌝ }
+    ensures { λ r. ⌜ ((s : System) (e : Equation) → keptHeaders (now (outline .entry)) ≡ map headerOf (s .equations) → at (s .equations) i ≡ Some e → keptHeader r ≡ headerOf e) ⌝ }
+{
+    outline.headers[i as usize]
+}
+
+// How many parameters an equation has.
+fn count_of(header: Header) -> u8
+    ensures sorts { λ r. ⌜ r ≡ length (keptHeader header .sorts) ⌝ }
+    ensures few { λ r. ⌜ r ≤ 15 ⌝ }
+{
+    header.count
+}
+
+fn sign_of(sign: Sign) -> u32
+    ensures value { λ r. ⌜ bitsOf 1 r ≡ signBits (keptSign sign) ⌝ }
+    ensures small { λ r. ⌜ r < 2 ⌝ }
+{
+    match sign {
+        Sign::Least => 0,
+        Sign::Greatest => 1,
+    }
+}
+
 // The variable of an instance: its sign, its rank and its body; none where an instance comes for which there is no place.
 pub(crate) fn write_variable<G: Algebra>(alg: &G, outline: &Outline, file: &[u8], instance: Instance, list: &mut FirstCome<Instance>, draft: &mut Draft) -> Option<()>
     ensures { λ r. ⌜ ((s : System) (x : Pair) → Outlined (meaning (now (alg .entry))) (now (file .entry)) s (now (outline .entry)) → length (now (file .entry)) ≤ 65536 → Apt s x → kept x ≡ instance → WritesVariable (meaning (now (alg .entry))) s x (state (now (now (list .entry) .items)) (now (list .entry) .len) (now (draft .entry))) (state (now (now (list .exit) .items)) (now (list .exit) .len) (now (draft .exit))) (is-some r)) ⌝ }
@@ -221,14 +265,9 @@ pub(crate) fn write_variable<G: Algebra>(alg: &G, outline: &Outline, file: &[u8]
     if instance.equation >= outline.count {
         return None;
     }
-    let i = instance.equation as usize;
-    let header = outline.headers[i];
-    let sign = match header.sign {
-        Sign::Least => 0,
-        Sign::Greatest => 1,
-    };
-    draft.put(sign, 1);
+    let header = header_at(outline, instance.equation);
+    draft.put(sign_of(header.sign), 1);
     draft.put(instance.equation as u32, 5);
-    let body = open_body(alg, file, outline.bodies[i])?;
-    write_quantified(alg, outline, header, 0, environment_of(instance, header.count), file, body, list, draft)
+    let body = open_body(alg, file, outline.bodies[instance.equation as usize])?;
+    write_quantified(alg, outline, header, 0, environment_of(instance, count_of(header)), file, body, list, draft)
 }

@@ -43,9 +43,10 @@ returns-in-Break-next g c s ps vs e q w h =
     let p = c .loop-k .next in
     let v = c .loop-k .inv s ps vs (scope (headerOf e)) (e .clauses) q w (h .clauses) in
     let u = goes-turn r s (λ k. map (clauseForm a ps vs) (holding a ps vs (k ∷ []))) (e .clauses) f q _ (m - i) (m - (i + 1)) p _ (omega arith) v in
+    let z = state (c .loop-k .list .items .now) (c .loop-k .list .len) (c .loop-k .draft) in
     none-all s (c .from-residual .result) (c .from-residual .ensures) (map (clauseForm a ps vs) (holding a ps vs (e .clauses))) _ _
-    (reforms s (flat (map (λ k. map (clauseForm a ps vs) (holding a ps vs (k ∷ []))) (e .clauses))) (map (clauseForm a ps vs) (holding a ps vs (e .clauses))) _ _ false (flat-holding a ps vs (clauseForm a ps vs) (e .clauses))
-    (goes-stop r s (λ k. map (clauseForm a ps vs) (holding a ps vs (k ∷ []))) (e .clauses) f q _ (m - i) (m - (i + 1)) p _ _ v u
+    (reforms s (flat (map (λ k. map (clauseForm a ps vs) (holding a ps vs (k ∷ []))) (e .clauses))) (map (clauseForm a ps vs) (holding a ps vs (e .clauses))) _ z false (flat-holding a ps vs (clauseForm a ps vs) (e .clauses))
+    (goes-stop r s (λ k. map (clauseForm a ps vs) (holding a ps vs (k ∷ []))) (e .clauses) f q _ (m - i) (m - (i + 1)) p z z v u
     (c .in-Break-next .ensures tt s ps vs (scope (headerOf e)) (u .x) (u .t) w (u .reads))))
 
 pub loop-k-again : need.loop-k-again

@@ -50,10 +50,11 @@ returns-in-Break-write-token g c s ps vs sc k q w h =
     let u = goes-turn (readOccurrence a hs sc) s (λ o. var (meant a ps vs o) ∷ []) (k .occurrences) f q _ (m - i) (m - (i + 1)) p _ (omega arith) v in
     let o = c .in-Continue-occurrence .ensures tt .found sc (u .x) (u .t) (w .short) (u .reads) in
     let x = meant a ps vs (u .x) in
+    let z = state (c .loop-k .list .items .now) (c .loop-k .list .len) (c .loop-k .draft) in
     let r = c .in-Break-write-token .ensures tt s x (occurrence-apt a s hs sc f p (u .x) (u .t) ps vs (w .headers) (u .reads)) (sym (c .meant .ensures ps vs (u .x) (u .t) (w .knows) o)) in
     none-leads s (c .from-residual-in-Break-write-token .result) (c .from-residual-in-Break-write-token .ensures) q (tokens a ps vs k) _ _
-    (reforms s (flat (map (λ o. var (meant a ps vs o) ∷ []) (k .occurrences))) (tokens a ps vs k) _ _ false (flat-one (λ o. var (meant a ps vs o)) (k .occurrences))
-    (goes-stop (readOccurrence a hs sc) s (λ o. var (meant a ps vs o) ∷ []) (k .occurrences) f q _ (m - i) (m - (i + 1)) p _ _ v u (one-form s (var x) _ _ false r)))
+    (reforms s (flat (map (λ o. var (meant a ps vs o) ∷ []) (k .occurrences))) (tokens a ps vs k) _ z false (flat-one (λ o. var (meant a ps vs o)) (k .occurrences))
+    (goes-stop (readOccurrence a hs sc) s (λ o. var (meant a ps vs o) ∷ []) (k .occurrences) f q _ (m - i) (m - (i + 1)) p z z v u (one-form s (var x) z z false r)))
 
 pub loop-k-again : need.loop-k-again
 loop-k-again g c s ps vs sc os q w h =
