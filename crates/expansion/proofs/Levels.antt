@@ -1,12 +1,13 @@
 -- Quantified variables, level by level.
 use mathlib.Core.Path.{_≡_, refl, sym, _∙_, ap, ap₂, subst}
-use mathlib.Core.Bool.{Bool, true, false}
+use mathlib.Core.Bool.{Bool, true, false, true≢false}
 use mathlib.Core.List.{List, [], _∷_, _++_, map}
 use mathlib.Core.Logic.{_≢_}
 use Prim.Native.Nat.{ℕ, zero, suc, _+_, _-_, _<_, _≤_}
 use native.Mathlib.Omega.{arith}
 use native.Mathlib.Numerals.{add-one}
-use native.Mathlib.Decide.{decEq}
+use lib.Dec.{eqb}
+use Rattle.std.proofs.shelf.Tests.{eqb-true, eq-eqb}
 use lib.ListN.{length, getD, take, drop, set, length-map, length-append}
 use lib.Seq.{getD-set-same, getD-set-other, length-take-le}
 use Rattle.std.specs.declared.option.Option.{Option}
@@ -75,16 +76,18 @@ map-snoc g [] x = refl
 map-snoc g (y ∷ xs) x = ap (λ c. g y ∷ c) (map-snoc g xs x)
 
 pub alike-more : (xs : List (Option ℕ)) (vs : List ℕ) (k v u : ℕ) → k < length xs → k ≡ length vs → u ≡ v → Alike xs (map Some vs) → Alike (set xs k (Some u)) (map Some (vs ++ (v ∷ [])))
-alike-more xs vs k v u l e i h n = go (decEq n k)
+alike-more xs vs k v u l e i h n = go (eqb n k) refl
   where
     m : length (map Some vs) ≡ length vs
     m = length-map vs Some
 
-    go : Dec (n ≡ k) → getD (set xs k (Some u)) n None ≡ getD (map Some (vs ++ (v ∷ []))) n None
-    go (yes q) =
+    go : (t : Bool) → eqb n k ≡ t → getD (set xs k (Some u)) n None ≡ getD (map Some (vs ++ (v ∷ []))) n None
+    go true w =
+        let q : n ≡ k = eqb-true n k w in
         ap (λ j. getD (set xs k (Some u)) j None) q ∙ getD-set-same xs k (Some u) None l ∙ ap Some i ∙ sym (snoc-same (map Some vs) (Some v) None) ∙
         ap (λ j. getD (map Some vs ++ (Some v ∷ [])) j None) (m ∙ sym e ∙ sym q) ∙ ap (λ l. getD l n None) (sym (map-snoc Some vs v))
-    go (no q) =
+    go false w =
+        let q : n ≡ k → ⊥ = λ z. true≢false (sym (eq-eqb n k z) ∙ w) in
         getD-set-other xs k n (Some u) None q ∙ h n ∙ sym (snoc-other (map Some vs) (Some v) None n (λ z. q (z ∙ m ∙ sym e))) ∙ ap (λ l. getD l n None) (sym (map-snoc Some vs v))
 
 -- the form of a quantifier

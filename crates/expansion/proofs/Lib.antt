@@ -7,3 +7,4 @@ pub mod Turns
 pub mod Apts
 pub mod Holding
 pub mod Levels
+pub mod Numbering

@@ -1,4 +1,4 @@
-pub mod Fronts
 pub mod Drafts
 pub mod Instances
 pub mod Bodies
+pub mod Expansions
