@@ -9,6 +9,10 @@ use native.Mathlib.Decide.{decLt}
 use lib.Dec.{leb, eqb, ltb}
 use lib.ListN.{length, getD, take, drop, length-map, length-append}
 use Rattle.std.proofs.shelf.Tests.{le-leb, lt-leb, leb-true, ltb-false}
+use lib.Seq.{length-take-le}
+use Rattle.std.specs.declared.result.Result.{Result}
+use Rattle.std.specs.declared.result.Result.the-variants.{Ok, Err}
+use Rattle.std.specs.Results.{ErrBy}
 use Rattle.std.specs.declared.option.Option.{Option}
 use Rattle.std.specs.declared.option.Option.the-variants.{None, Some}
 use Rattle.faults.specs.declared.Reason.the-variants.{TooManyInstances, BooleanTooLong}
@@ -24,7 +28,7 @@ use Rattle.faults.specs.declared.Reason.the-variants.{BadLength}
 use Rattle.definitions.specs.Reading.{got, bad, ended as endedReading, complete}
 use Rattle.definitions.specs.ReadSystem.{reading, readSystem}
 use Rattle.definitions.specs.Fits.{Every}
-use Rattle.definitions.specs.Boolean.{vars, form, come, comes, numbering, numberIn, Variable, variableOf, variableBits, booleanWritten, shipped, made, refused, expanded, expandSystem, expandRead, mostInstances}
+use Rattle.definitions.specs.Boolean.{Expanded, vars, form, come, comes, numbering, numberIn, Variable, variableOf, variableBits, booleanWritten, shipped, made, refused, expanded, expandSystem, expandRead, mostInstances}
 use Rattle.definitions.specs.Calls.{Makes, NotMade}
 use Rattle.system.specs.declared.instance.Instance.{Instance as Kept}
 use Rattle.system.specs.declared.outline.Outline.{Outline}
@@ -32,10 +36,11 @@ use Rattle.system.specs.Whole.{Outlined}
 use Rattle.theorems.proofs.Listing.{none-some, some-same, at-lt, every-at}
 use Rattle.theorems.proofs.Numbers.{Grows, comes-grows, come-grows, grows-at, grows-trans, at-none, drop-at, drop-all}
 use Rattle.expansion.specs.declared.Expansion.{Expansion}
-use Rattle.expansion.specs.Drafts.{Ended}
+use Rattle.expansion.specs.declared.draft.Draft.{Draft}
+use Rattle.expansion.specs.Drafts.{Drafted, Ended}
 use Rattle.expansion.specs.Instances.{kept, Apt, Listed, Begins, State, Stands, Writes}
 use Rattle.expansion.specs.Bodies.{WritesVariable}
-use Rattle.expansion.specs.Expansions.{bitsOfAll, Finished, Stored}
+use Rattle.expansion.specs.Expansions.{bitsOfAll, Finished, Stored, Expands}
 use Rattle.expansion.proofs.Lines.{at-there}
 
 -- ns came before the variable numbered k; what is left brings the others, and their bits
@@ -195,6 +200,17 @@ module _ (a : Alg) (s : System) (ms : List Instance) (e : ms ≡ numbering a s) 
       above : (n : ℕ) → n < x .len → n < length (booleanWritten (map (variableOf a s ms) ms))
       above n l = subst (λ w. n < w) len-is l
 
+  -- what ending a draft told
+  pub close-none : (work variables : ℕ) (d : Draft) (bytes : List ℕ) → length ms ≤ work → length ms ≤ 4096 → variables ≡ length ms → Drafted (bitsOfAll a s ms ms) d →
+      ((bs cs : List ℕ) → cs ≡ bits 12 (variables - 1) → Drafted bs d → Ended (packed (cs ++ bs)) bytes None) → (room : ℕ) → expandSystem a work room s ≡ refused (Refused BooleanTooLong)
+  close-none work variables d bytes h m v t f =
+      too-long work (bits 12 (length ms - 1)) bytes h m refl (f (bitsOfAll a s ms ms) (bits 12 (length ms - 1)) (ap (λ n. bits 12 (n - 1)) (sym v)) t)
+
+  pub close-some : (work : ℕ) (x : Expansion) (d : Draft) (bytes : List ℕ) → length ms ≤ work → length ms ≤ 4096 → x .variables ≡ length ms → Drafted (bitsOfAll a s ms ms) d →
+      ((bs cs : List ℕ) → cs ≡ bits 12 (x .variables - 1) → Drafted bs d → Ended (packed (cs ++ bs)) bytes (Some (x .len))) → Stored a s work bytes x
+  close-some work x d bytes h m v t f =
+      stored work (bits 12 (length ms - 1)) bytes x h m refl v (f (bitsOfAll a s ms ms) (bits 12 (length ms - 1)) (ap (λ n. bits 12 (n - 1)) (sym v)) t)
+
 -- a numbering begins with the start
 pub numbering-some : (a : Alg) (s : System) (ms : List Instance) → ms ≡ numbering a s → 1 ≤ length ms
 numbering-some a s ms e = go mostInstances ms e
@@ -242,3 +258,10 @@ start-kept a f s o h = ap₂ (λ (e : ℕ) (vs : List ℕ). record-of e vs) (sym
   where
     record-of : ℕ → List ℕ → Kept
     record-of e vs = record { equation = e; values = vs }
+
+pub part-long : {A : Type 0} (xs ys : List A) (n : ℕ) → ys ≡ take (n - 0) xs → n ≤ length xs → length ys ≡ n
+part-long xs ys n e h = let m : n - 0 ≡ n = omega arith in ap length e ∙ length-take-le (n - 0) xs (omega arith) ∙ m
+
+pub refuses : {o : Expanded} {before after : List ℕ} (r : Result Expansion ExpandFault) (e : ExpandFault) → ErrBy r (λ y. y ≡ e) → NotMade o before after e → Expands o before after r
+refuses (Ok x) e h n = absurd h
+refuses {o} {before} {after} (Err y) e h n = subst (λ z. NotMade o before after z) (sym h) n
