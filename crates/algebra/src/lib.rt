@@ -1,4 +1,7 @@
 //! Data algebras: what one is asked, and the three that exist.
+
+#![tactic(auto)]
+
 ghost use Rattle.std.specs.Prelude.{◌≡◌};
 ghost use Rattle.definitions.specs.Alg.{Alg, Lawful};
 

@@ -1,4 +1,7 @@
 //! The bench: it holds a system file, and passes run on what it holds.
+
+#![tactic(auto)]
+
 pub mod calls;
 
 ghost use Rattle.std.specs.Prelude.{◌≡◌, ℕ, ◌≤◌, slice_index};

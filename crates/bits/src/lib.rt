@@ -1,4 +1,7 @@
 //! Fields of bits in a slice of bytes, the most significant bit first: reading and writing.
+
+#![tactic(auto)]
+
 mod laws;
 mod reader;
 mod writer;

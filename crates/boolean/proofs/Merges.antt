@@ -157,8 +157,8 @@ module _ (ss : List (Option KeptSign)) (k r : ℕ) (all : Blocks) (g : Merged ss
   pub rank_unused : get_or ss r None ≡ None → Merged ss (k + 1) all
   rank_unused e =
       record {
-        long_signs = g.long-signs;
-        long_ranks = g.long-ranks;
+        long_signs = g.long_signs;
+        long_ranks = g.long_ranks;
         few = omega (arith, g.few);
         free = λ x l. g.free x (omega arith);
         placed = g.placed;
@@ -174,21 +174,21 @@ module _ (ss : List (Option KeptSign)) (k r : ℕ) (all : Blocks) (g : Merged ss
     rank_same n c p =
         let n32 : n < 32 = omega (arith, g.few) in
         record {
-          long_signs = g.long-signs;
-          long_ranks = length-set all.ranks r n ∙ g.long-ranks;
+          long_signs = g.long_signs;
+          long_ranks = length-set all.ranks r n ∙ g.long_ranks;
           few = omega (arith, g.few);
           free = λ x l. let ne : x ≢ r = omega arith in rw get_or-set_other (g.free x (omega arith));
           placed = λ x l. go x l (ℕ_discrete x r);
           alike = λ vs d f.
               ap (λ z. solve order.truths (variable_body vs) z f) (ranks_used vs r k true h (used_by_lem vs d (Some s) e)) ∙
-              rank_joins vs d.small all.ranks r n g.long-ranks (omega arith) free_here n32 all.signs s (d.sign r s (omega arith) e)
+              rank_joins vs d.small all.ranks r n g.long_ranks (omega arith) free_here n32 all.signs s (d.sign r s (omega arith) e)
               (map (rank_block vs) (keep (used_by vs) (from (32 - k) k))) p
               (λ f. g.alike vs d f ∙ ap (λ z. solve order.truths (variable_body vs) (blocks_below vs all.ranks all.signs z) f) c) f ∙
               ap (λ z. solve order.truths (variable_body vs) (blocks_below vs (set all.ranks r n) all.signs z) f) (sym c);
         }
       where
         go : (x : ℕ) → x < 32 → Dec (x ≡ r) → (get_or (set all.ranks r n) x 0 ≡ 32) ⊎ (get_or (set all.ranks r n) x 0 < all.count)
-        go x l (yes z) = let q : get_or (set all.ranks r n) x 0 ≡ n = ap (λ y. get_or (set all.ranks r n) y 0) z ∙ get_or-set_same all.ranks r n 0 (omega (arith, g.long-ranks)) in inr (omega arith)
+        go x l (yes z) = let q : get_or (set all.ranks r n) x 0 ≡ n = ap (λ y. get_or (set all.ranks r n) y 0) z ∙ get_or-set_same all.ranks r n 0 (omega (arith, g.long_ranks)) in inr (omega arith)
         go x l (no z) = subst (λ y. (y ≡ 32) ⊎ (y < all.count)) (sym (get_or-set_other all.ranks r x n 0 z)) (g.placed x l)
 
     pub rank_new : Merged ss (k + 1) (record { count = all.count + 1; signs = set all.signs all.count s; ranks = set all.ranks r all.count })
@@ -196,15 +196,15 @@ module _ (ss : List (Option KeptSign)) (k r : ℕ) (all : Blocks) (g : Merged ss
         let n = all.count in
         let n32 : n < 32 = omega (arith, g.few) in
         record {
-          long_signs = length-set all.signs n s ∙ g.long-signs;
-          long_ranks = length-set all.ranks r n ∙ g.long-ranks;
+          long_signs = length-set all.signs n s ∙ g.long_signs;
+          long_ranks = length-set all.ranks r n ∙ g.long_ranks;
           few = omega (arith, g.few);
           free = λ x l. let ne : x ≢ r = omega arith in rw get_or-set_other (g.free x (omega arith));
           placed = λ x l. go x l (ℕ_discrete x r) (g.placed x l);
           alike = λ vs d f.
               ap (λ z. solve order.truths (variable_body vs) z f) (ranks_used vs r k true h (used_by_lem vs d (Some s) e)) ∙
-              rank_opens vs d.small all.ranks r n g.long-ranks (omega arith) free_here n32 all.signs s (d.sign r s (omega arith) e)
-              (map (rank_block vs) (keep (used_by vs) (from (32 - k) k))) g.long-signs (λ x l q. apart x l q (g.placed x l)) (g.alike vs d) f ∙
+              rank_opens vs d.small all.ranks r n g.long_ranks (omega arith) free_here n32 all.signs s (d.sign r s (omega arith) e)
+              (map (rank_block vs) (keep (used_by vs) (from (32 - k) k))) g.long_signs (λ x l q. apart x l q (g.placed x l)) (g.alike vs d) f ∙
               ap (λ z. solve order.truths (variable_body vs) (blocks_below vs (set all.ranks r n) (set all.signs n s) z) f) (sym (add-one n));
         }
       where
@@ -214,7 +214,7 @@ module _ (ss : List (Option KeptSign)) (k r : ℕ) (all : Blocks) (g : Merged ss
 
         go : (x : ℕ) → x < 32 → Dec (x ≡ r) → (get_or all.ranks x 0 ≡ 32) ⊎ (get_or all.ranks x 0 < all.count) →
             (get_or (set all.ranks r all.count) x 0 ≡ 32) ⊎ (get_or (set all.ranks r all.count) x 0 < all.count + 1)
-        go x l (yes z) o = let q : get_or (set all.ranks r all.count) x 0 ≡ all.count = ap (λ y. get_or (set all.ranks r all.count) y 0) z ∙ get_or-set_same all.ranks r all.count 0 (omega (arith, g.long-ranks)) in inr (omega arith)
+        go x l (yes z) o = let q : get_or (set all.ranks r all.count) x 0 ≡ all.count = ap (λ y. get_or (set all.ranks r all.count) y 0) z ∙ get_or-set_same all.ranks r all.count 0 (omega (arith, g.long_ranks)) in inr (omega arith)
         go x l (no z) (inl o) = inl (get_or-set_other all.ranks r x all.count 0 z ∙ o)
         go x l (no z) (inr o) = let q = get_or-set_other all.ranks r x all.count 0 z in inr (omega arith)
 

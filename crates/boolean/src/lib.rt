@@ -1,4 +1,7 @@
 //! Boolean files: reading them, and solving them.
+
+#![tactic(auto)]
+
 mod blocks;
 pub mod entries;
 mod merging;

@@ -1,1 +1,3 @@
 //! What everything means: the definitions that the contracts of the other crates cite, in specs/.
+
+#![tactic(auto)]

@@ -1,4 +1,7 @@
 //! Expanding a system to a Boolean file: one variable for each instance that the start reaches.
+
+#![tactic(auto)]
+
 ghost use Rattle.std.specs.Prelude.{◌≡◌, ◌≤◌, ◌++◌, length, drop};
 ghost use Rattle.expansion.specs.Fronts.{Expands};
 

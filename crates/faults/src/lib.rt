@@ -1,6 +1,9 @@
 //! Why a call is declined: the reason with its number, the layer that tells it, and the bit place.
 //!
 //! Faults nest: a pass that could not read its file carries the reading fault unchanged, and a settle the fault of its pass.
+
+#![tactic(auto)]
+
 ghost use Rattle.std.specs.Prelude.{◌≡◌};
 ghost use Rattle.faults.specs.Faults.{number_of, of_table, of_read, of_pass, of_settle, of_expand, of_solve};
 ghost use Rattle.faults.specs.declared.PassFault.TheVariants.{Reading as InPass};

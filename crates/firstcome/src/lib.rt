@@ -1,4 +1,7 @@
 //! A first-come list: records in a lent slice, each once, in the order in which they came.
+
+#![tactic(auto)]
+
 ghost use Rattle.std.specs.Prelude.{◌≡◌, ◌+◌, ◌<◌, ◌≤◌, true, false, length, IfSome, IfNone, MatchOption, slice_index_or, slice_set};
 ghost use Rattle.std.specs.List.{HoldsAt, AllWithin};
 
@@ -22,7 +25,7 @@ fn item_at<T: Copy>(items: &[T], i: usize) -> T
 // The place of the first of the `len` records that equals x.
 fn find_in<T: PartialEq>(items: &[T], len: usize, x: &T) -> Option<usize>
     requires { len ≤ length items.now }
-    ensures { MatchOption result (AllWithin (λ y. false ≡ eq y x.now) items.now 0 len) (λ i. (i < len) × HoldsAt (λ y. true ≡ eq y x.now) items.now i × AllWithin (λ y. false ≡ eq y x.now) items.now 0 i) }
+    ensures { MatchOption result (AllWithin (λ y. false ≡ T.eq y x.now) items.now 0 len) (λ i. (i < len) × HoldsAt (λ y. true ≡ T.eq y x.now) items.now i × AllWithin (λ y. false ≡ T.eq y x.now) items.now 0 i) }
 {
     for i in 0..len {
         if items[i].eq(x) {
@@ -54,16 +57,16 @@ impl<'a, T: PartialEq + Copy> FirstCome<'a, T> {
 
     /// The place at which the record came, or none where it did not come.
     pub fn find(&self, x: &T) -> Option<usize>
-        ensures { MatchOption result (AllWithin (λ y. false ≡ eq y x.now) self.now.items.now 0 self.now.len) (λ i. (i < self.now.len) × HoldsAt (λ y. true ≡ eq y x.now) self.now.items.now i × AllWithin (λ y. false ≡ eq y x.now) self.now.items.now 0 i) }
+        ensures { MatchOption result (AllWithin (λ y. false ≡ T.eq y x.now) self.now.items.now 0 self.now.len) (λ i. (i < self.now.len) × HoldsAt (λ y. true ≡ T.eq y x.now) self.now.items.now i × AllWithin (λ y. false ≡ T.eq y x.now) self.now.items.now 0 i) }
     {
         find_in(self.items, self.len, x)
     }
 
     /// The record comes: the place at which it came first, or none where it is new and the slice is full.
     pub fn come(&mut self, x: T) -> Option<usize>
-        ensures full { IfNone result ((self.old.len ≡ length self.old.items.now) × (self.new.len ≡ self.old.len) × (self.new.items.now ≡ self.old.items.now) × AllWithin (λ y. false ≡ eq y x) self.old.items.now 0 self.old.len) }
-        ensures old { IfSome result (λ i. i < self.old.len → (self.new.len ≡ self.old.len) × (self.new.items.now ≡ self.old.items.now) × HoldsAt (λ y. true ≡ eq y x) self.old.items.now i × AllWithin (λ y. false ≡ eq y x) self.old.items.now 0 i) }
-        ensures added { IfSome result (λ i. self.old.len ≤ i → (i ≡ self.old.len) × (self.new.len ≡ i + 1) × (self.new.items.now ≡ slice_set self.old.items.now i x) × AllWithin (λ y. false ≡ eq y x) self.old.items.now 0 i) }
+        ensures full { IfNone result ((self.old.len ≡ length self.old.items.now) × (self.new.len ≡ self.old.len) × (self.new.items.now ≡ self.old.items.now) × AllWithin (λ y. false ≡ T.eq y x) self.old.items.now 0 self.old.len) }
+        ensures old { IfSome result (λ i. i < self.old.len → (self.new.len ≡ self.old.len) × (self.new.items.now ≡ self.old.items.now) × HoldsAt (λ y. true ≡ T.eq y x) self.old.items.now i × AllWithin (λ y. false ≡ T.eq y x) self.old.items.now 0 i) }
+        ensures added { IfSome result (λ i. self.old.len ≤ i → (i ≡ self.old.len) × (self.new.len ≡ i + 1) × (self.new.items.now ≡ slice_set self.old.items.now i x) × AllWithin (λ y. false ≡ T.eq y x) self.old.items.now 0 i) }
     {
         if let Some(i) = self.find(&x) {
             return Some(i);

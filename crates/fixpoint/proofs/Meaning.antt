@@ -12,7 +12,7 @@ use Rattle.fixpoint.proofs.Rounds.{antisym, le_eq}
 pub one : {I V : Type 0} (O : Order V) (body : (I → V) → I → V) (bs : List (Block I)) (e s s' : I → V) →
     IsSolution O body bs e s → IsSolution O body bs e s' → s ≡ s'
 one O body [] e s s' p q = sym p ∙ q
-one {I} {V} O body (b ∷ bs) e s s' t t' = go (fun_ext (λ f. one O body bs f (t.inner f) (t'.inner f) (t.inner-solution f) (t'.inner_solution f)))
+one {I} {V} O body (b ∷ bs) e s s' t t' = go (fun_ext (λ f. one O body bs f (t.inner f) (t'.inner f) (t.inner_solution f) (t'.inner_solution f)))
   where
     go : t.inner ≡ t'.inner → s ≡ s'
     go p =

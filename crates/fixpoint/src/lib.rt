@@ -1,6 +1,8 @@
 //! The theory of nested least and greatest fixpoints: the laws of the solution of a ranked system, for every type of indices
 //! and every order of finite height on every type of truths. Each theorem is the contract of a function.
 
+#![tactic(auto)]
+
 ghost use Rattle.fixpoint.specs.Laws.{BlocksExtreme, SolutionsMonotone, AtMostOneSolution, RoundsFindSolution, SolutionGivenBack};
 ghost use Rattle.fixpoint.specs.Laws.{TransferOfTests, TransferOfEquals, CouplingOfTests, NeighboursMerge, NeighboursExchange, FormulaPulledOut};
 

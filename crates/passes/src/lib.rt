@@ -1,4 +1,7 @@
 //! Passes: each reads a system file and writes the file of a system with the same verdict.
+
+#![tactic(auto)]
+
 ghost use Rattle.passes.specs.Fronts.{Fronts};
 
 pub mod constants;

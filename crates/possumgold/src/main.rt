@@ -1,6 +1,9 @@
 //! Reads a table file and a system file, settles and expands the system, solves it, and prints the verdict.
 //!
 //! Standard input: the table file, with its length in two bytes before it, and then the system file.
+
+#![tactic(auto)]
+
 use algebra::Table;
 use bench::Bench;
 use boolean::solving::solve;

@@ -1,4 +1,7 @@
 //! Reads a Boolean file from standard input, solves it, and prints the truth of each variable, a digit 0 or 1.
+
+#![tactic(auto)]
+
 use boolean::solving::solve;
 use std::io;
 use std::io::Read;

@@ -1,4 +1,7 @@
 //! System files: reading them, and walking through accepted ones.
+
+#![tactic(auto)]
+
 mod bodies;
 pub mod header;
 mod headers;

@@ -66,5 +66,5 @@ few_parts a l o n e = go (ltb o a.ops) refl
         let z = x.2 in
         omega arith
     go false h =
-        let x = (l.no-op o (ltb-false o a.ops h)).0 in
+        let x = (l.no_op o (ltb-false o a.ops h)).0 in
         let z : ◌≡◌ {A = ℕ} 0 1 = cc in absurd (omega arith)

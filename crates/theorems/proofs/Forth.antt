@@ -234,10 +234,10 @@ module _ (a : Alg) (c : Scope) (f : List ℕ) (d : ℕ) where
       got_equal h x q e =
           let (_, p₂, e₂, k₂) = follow_inv (suits need 0 p f (p + 3)) _ x q e in
           let (t, p₃, e₃, k₃) = follow_inv (part None f p₂) _ x q k₂ in
-          let (u, p₄, e₄, k₄) = follow_inv (part (Some t.the-sort) f p₃) _ x q k₃ in
+          let (u, p₄, e₄, k₄) = follow_inv (part (Some t.the_sort) f p₃) _ x q k₃ in
           let n = suits_inv need 0 p f (p + 3) tt p₂ e₂ in
           let g = ih None p₂ t p₃ e₃ in
-          let g' = ih (Some t.the-sort) p₃ u p₄ e₄ in
+          let g' = ih (Some t.the_sort) p₃ u p₄ e₄ in
           onto need p (of 0 equal (t.the_term ∷ u.the_term ∷ [])) x p₄ q k₄
           (record {
             fits = fit_equal g.fits (subst (λ m. Fits a c d m u.the_term) (sym g'.needs) g'.fits);

@@ -223,4 +223,4 @@ size_range a l s z e = go (cases_lt s a.sorts)
         let (n, k, low, up) = l.sort s h in
         let q : n ≡ z = some_same n z (sym k ∙ e) in
         (omega arith, omega arith)
-    go (inr h) = none_some z (sym (l.no-sort s h) ∙ e)
+    go (inr h) = none_some z (sym (l.no_sort s h) ∙ e)

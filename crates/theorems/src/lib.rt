@@ -1,6 +1,8 @@
 //! What is proved of the definitions, over every lawful algebra and every fitting system. Each theorem is the contract of a
 //! function; nothing here speaks of how a program works.
 
+#![tactic(auto)]
+
 ghost use Rattle.theorems.specs.Examples.{Examples};
 ghost use Rattle.theorems.specs.Misreadings.{Misreadings};
 ghost use Rattle.theorems.specs.Evaluation.{TermsEvaluateInSort, ArgumentsLandInSorts, ReachedInstancesInRange, KnownValuesAgree};

@@ -2,6 +2,9 @@
 //!
 //! A line of the script is a command, and behind ` | ` what its case shows; without that it prints nothing. The commands stand at
 //! the head of the script, crates/vectors/stdin. An empty line and a line that begins with `#` are skipped.
+
+#![tactic(auto)]
+
 mod acts;
 mod asks;
 mod desk;

@@ -3,8 +3,8 @@ use Rattle.bits.proofs.Fields.{field_more, field_fits}
 use Rattle.bits.proofs.reader.number.Goals as goal
 use Rattle.bits.proofs.reader.number.Goals.{then-width-done, else-width-done}
 
-pub overflow-add-value : goal.overflow-add-value
-overflow-add-value c =
+pub overflow_add-value : goal.overflow_add-value
+overflow_add-value c =
     let k = c.if-width-done.count in
     let d = c.loop-done.done in
     let f = c.args.bytes.now in

@@ -16,7 +16,7 @@ loop-done-preserved c =
     let g = c.loop-done.bytes in
     let h : (d + k ≤ w) × (k ≤ 31) = elim c.if-width-done.branch [ then-width-done x ↦ (omega (arith, x.count-is), omega (arith, x.count-is)) | else-width-done x ↦ (omega (arith, x.count-is), omega (arith, x.count-is)) ] in (
       h.0,
-      c.put-part.ensures ∙
+      c.put_part.ensures ∙
           ap (λ (m : ℕ). overwritten g (c.args.at + d) (bits k (v / 2 ^ (w - d - k) % m))) (weight k h.1) ∙
           put_more f g c.args.at d k v w h.0 c.loop-done.invariant.1,
     )

@@ -3,8 +3,8 @@ use Rattle.bits.proofs.Fields.{weight}
 use Rattle.bits.proofs.Puts.{with_bits, with_bits_small, put_in}
 use Rattle.bits.proofs.writer.put_part.Goals as goal
 
-pub overflow-cast-bytes : goal.overflow-cast-bytes
-overflow-cast-bytes c =
+pub overflow_cast-bytes : goal.overflow_cast-bytes
+overflow_cast-bytes c =
     let p = c.args.at in
     let k = c.args.count in
     let x = get_or c.args.bytes.now (p / 8) 0 in

@@ -12,7 +12,7 @@ returns c =
     record {
       count = omega arith;
       padded = elim c.if-byte-self.branch [
-        | then-byte-self w ↦ ap (λ (s : BitWriter). s.bytes.now) w.self-is ∙ w.put-part.ensures ∙ closes f p c.if-at-eq0.false
+        | then-byte-self w ↦ ap (λ (s : BitWriter). s.bytes.now) w.self-is ∙ w.put_part.ensures ∙ closes f p c.if-at-eq0.false
         | else-byte-self w ↦ ap (λ (s : BitWriter). s.bytes.now) w.self-is ∙ sym (overwritten_out f p (replicate ((8 - p % 8) % 8) 0) (let h : length f ≤ p / 8 = omega arith in h))
       ];
       stays = elim c.if-byte-self.branch [ then-byte-self w ↦ ap (λ (s : BitWriter). s.at) w.self-is | else-byte-self w ↦ ap (λ (s : BitWriter). s.at) w.self-is ];
