@@ -8,3 +8,4 @@ pub mod Lawfuls
 pub mod Lists
 pub mod Tables
 pub mod Places
+pub mod Counted

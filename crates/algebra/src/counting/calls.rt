@@ -7,10 +7,7 @@ ghost use Rattle.definitions.specs.Lists.{at as member_at};
 ghost use Rattle.algebra.specs.Runs.{runs};
 ghost use Rattle.algebra.specs.Limits.{size_fits, countable};
 ghost use Rattle.algebra.specs.Counting.{counted};
-ghost use Rattle.std.proofs.Common.{arith};
-ghost use Rattle.std.proofs.lemmas.Bool.{leb-true, and_parts};
-ghost use Rattle.algebra.specs.Lists.{every_each, front_long};
-ghost use Rattle.algebra.specs.Lawfuls.{counting_lawful};
+ghost use Rattle.algebra.specs.Counted.{counted_lawful};
 
 use crate::Algebra;
 use crate::counting::Counting;
@@ -173,11 +170,7 @@ fn count(size: u16, which: u8, args: &[u8]) -> Option<u8>
 impl Algebra for Counting {
     ghost meaning = { counted };
 
-    ghost lawful = { λ x.
-        let l : length (take x.count x.sizes) ≤ x.count = front_long x.count x.sizes in
-        let f : x.count ≤ 15 = x.few in
-        counting_lawful (take x.count x.sizes) (omega arith)
-        (every_each size_fits (λ n. (1 ≤ n) × (n ≤ 256)) (λ n e. let p = and_parts (nat_le 1 n) (nat_le n 256) e in (leb-true 1 n p.0, leb-true n 256 p.1)) (take x.count x.sizes) x.fit) };
+    ghost lawful = { counted_lawful };
 
     fn sorts(&self) -> u8 {
         self.count + 1

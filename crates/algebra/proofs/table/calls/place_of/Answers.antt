@@ -31,8 +31,8 @@ returns-then-args-k c =
     let e : get_or zs k 0 ≡ get_or c.args.sizes.now (get_or ss k 0) 0 = sized_at c.args.sizes.now ss k (omega arith) in
     answer (within zs xs) (place_of 0 zs xs) (c.loop-k.invariant.1 ∙ within_stop zs xs k (omega arith) (omega arith) (omega arith))
 
-pub overflow-mul-place : goal.overflow-mul-place
-overflow-mul-place c =
+pub overflow_mul-place : goal.overflow_mul-place
+overflow_mul-place c =
     let ss : List ℕ = c.args.sorts.now in
     let xs : List ℕ = c.args.args.now in
     let k = c.loop-k.k in
@@ -42,8 +42,8 @@ overflow-mul-place c =
     let small = power (k + 1) (n * z + get_or xs k 0) (omega arith) (place_small n z (get_or xs k 0) k c.loop-k.invariant.0 (omega arith) (omega arith)) in
     record { fits = (let h : n * z < 2 ^ 64 = omega arith in h) }
 
-pub overflow-add-place : goal.overflow-add-place
-overflow-add-place c =
+pub overflow_add-place : goal.overflow_add-place
+overflow_add-place c =
     let ss : List ℕ = c.args.sorts.now in
     let xs : List ℕ = c.args.args.now in
     let k = c.loop-k.k in

@@ -11,8 +11,8 @@ bounds-sizes-sorts c =
     let k = c.loop-k.k in
     ltb-true (get_or ss k 0) (length c.args.sizes.now) (each_at (λ s. ltb s (length c.args.sizes.now)) ss k c.requires.known (omega arith))
 
-pub overflow-mul-total : goal.overflow-mul-total
-overflow-mul-total c =
+pub overflow_mul-total : goal.overflow_mul-total
+overflow_mul-total c =
     let k = c.loop-k.k in
     let t = c.loop-k.total in
     let z = get_or c.args.sizes.now (get_or c.args.sorts.now k 0) 0 in

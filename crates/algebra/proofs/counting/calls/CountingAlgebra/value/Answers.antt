@@ -5,8 +5,8 @@ use Rattle.algebra.specs.Lists.{every_at, every_each}
 use Rattle.algebra.proofs.Counts.{value_none, value_some}
 use Rattle.algebra.proofs.counting.calls.CountingAlgebra.value.Goals as goal
 
-pub returns-in-default : goal.returns-in-default
-returns-in-default c = value_none (take c.args.self.now.count c.args.self.now.sizes) c.args.op c.args.args.now c.in-default.ensures
+pub returns-in_default : goal.returns-in_default
+returns-in_default c = value_none (take c.args.self.now.count c.args.self.now.sizes) c.args.op c.args.args.now c.in_default.ensures
 
 pub count-requires : goal.count-requires
 count-requires c =

@@ -5,12 +5,12 @@ use Rattle.algebra.specs.Lists.{front_in, front_out}
 use Rattle.algebra.specs.Tables.{ask_some, ask_none, args_long}
 use Rattle.algebra.proofs.table.calls.TableAlgebra.arg_sort.Goals as goal
 
-pub returns-in-default : goal.returns-in-default
-returns-in-default c =
+pub returns-in_default : goal.returns-in_default
+returns-in_default c =
     let t = c.args.self.now in
     let sizes = take t.count t.sizes in
     let os = take t.number t.operations in
-    ask_none sizes t.values os c.args.op (λ (q : Op). at q.args c.args.k) c.in-default.ensures
+    ask_none sizes t.values os c.args.op (λ (q : Op). at q.args c.args.k) c.in_default.ensures
 
 pub returns-then-k-o : goal.returns-then-k-o
 returns-then-k-o c =
