@@ -42,14 +42,14 @@ impl Bench {
 
     /// Holds the file if it is that of a system that fits the algebra.
     pub fn load<G: Algebra>(&mut self, alg: &G, file: &[u8]) -> Result<(), ReadFault>
-        ensures history { Follows (loads (G.Algebra.meaning alg.now) file.now result) (holding self.old) (holding self.new) }
-        ensures answer { Loads (G.Algebra.meaning alg.now) file.now (holding self.old) (holding self.new) result }
+        ensures history { Follows (loads (G.meaning alg.now) file.now result) (holding self.old) (holding self.new) }
+        ensures answer { Loads (G.meaning alg.now) file.now (holding self.old) (holding self.new) result }
     {
         self.load_inner(alg, file)
     }
 
     fn load_inner<G: Algebra>(&mut self, alg: &G, file: &[u8]) -> Result<(), ReadFault>
-        ensures { Loads (G.Algebra.meaning alg.now) file.now (holding self.old) (holding self.new) result }
+        ensures { Loads (G.meaning alg.now) file.now (holding self.old) (holding self.new) result }
     {
         let _outline = read(alg, file)?;
         let mut bytes = [0; 8192];

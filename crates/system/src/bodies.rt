@@ -21,7 +21,7 @@ fn check_of<G: Algebra>(
     sort: u8,
 ) -> Result<usize, ReadFault>
     requires { length bytes.now ≤ 65536 }
-    ensures { told_place result ≡ placed (read_of (meaning alg.now) (scoped scope.entry) sort bytes.now at) }
+    ensures { told_place result ≡ placed (read_of (G.meaning alg.now) (scoped scope.entry) sort bytes.now at) }
 {
     let term = check_term(alg, scope, bytes, at, DEPTH, Some(sort))?;
     Ok(term.next)
@@ -35,7 +35,7 @@ fn check_arguments<G: Algebra>(
     sorts: &[u8],
 ) -> Result<usize, ReadFault>
     requires { length bytes.now ≤ 65536 }
-    ensures { told_place result ≡ placed (each (read_of (meaning alg.now) (scoped scope.entry)) sorts.now bytes.now at) }
+    ensures { told_place result ≡ placed (each (read_of (G.meaning alg.now) (scoped scope.entry)) sorts.now bytes.now at) }
 {
     let mut next = at;
     for sort in sorts {
@@ -86,7 +86,7 @@ fn check_occurrence<G: Algebra>(
     at: usize,
 ) -> Result<usize, ReadFault>
     requires { length bytes.now ≤ 65536 }
-    ensures { told_place result ≡ placed (read_occurrence (meaning alg.now) (map kept_header headers.now) (scoped scope.entry) bytes.now at) }
+    ensures { told_place result ≡ placed (read_occurrence (G.meaning alg.now) (map kept_header headers.now) (scoped scope.entry) bytes.now at) }
 {
     let target = read_target(headers, bytes, at)?;
     let sorts = target.header.sorts;
@@ -108,7 +108,7 @@ fn check_occurrences<G: Algebra>(
     count: u32,
 ) -> Result<usize, ReadFault>
     requires { length bytes.now ≤ 65536 }
-    ensures { told_place result ≡ placed (repeated (read_occurrence (meaning alg.now) (map kept_header headers.now) (scoped scope.entry)) count bytes.now at) }
+    ensures { told_place result ≡ placed (repeated (read_occurrence (G.meaning alg.now) (map kept_header headers.now) (scoped scope.entry)) count bytes.now at) }
 {
     let mut next = at;
     for _i in 0..count {
@@ -125,7 +125,7 @@ fn check_clause<G: Algebra>(
     at: usize,
 ) -> Result<usize, ReadFault>
     requires { length bytes.now ≤ 65536 }
-    ensures { told_place result ≡ placed (read_clause (meaning alg.now) (map kept_header headers.now) (scoped scope.entry) bytes.now at) }
+    ensures { told_place result ≡ placed (read_clause (G.meaning alg.now) (map kept_header headers.now) (scoped scope.entry) bytes.now at) }
 {
     let place = check_of(alg, scope, bytes, at, 0)?;
     let mut reader = BitReader { bytes, at: place };
@@ -147,7 +147,7 @@ fn check_clauses<G: Algebra>(
     count: u32,
 ) -> Result<usize, ReadFault>
     requires { length bytes.now ≤ 65536 }
-    ensures { told_place result ≡ placed (repeated (read_clause (meaning alg.now) (map kept_header headers.now) (scoped scope.entry)) count bytes.now at) }
+    ensures { told_place result ≡ placed (repeated (read_clause (G.meaning alg.now) (map kept_header headers.now) (scoped scope.entry)) count bytes.now at) }
 {
     let mut next = at;
     for _i in 0..count {
@@ -164,7 +164,7 @@ fn check_body<G: Algebra>(
     at: usize,
 ) -> Result<usize, ReadFault>
     requires { length bytes.now ≤ 65536 }
-    ensures { told_place result ≡ body_places (meaning alg.now) (map kept_header headers.now) (scoped scope.entry) bytes.now at }
+    ensures { told_place result ≡ body_places (G.meaning alg.now) (map kept_header headers.now) (scoped scope.entry) bytes.now at }
 {
     let place = check_of(alg, scope, bytes, at, 0)?;
     let mut reader = BitReader { bytes, at: place };
@@ -185,7 +185,7 @@ fn check_equation<G: Algebra>(
     at: usize,
 ) -> Result<usize, ReadFault>
     requires { length bytes.now ≤ 65536 }
-    ensures { told_place result ≡ placed (read_body (meaning alg.now) (map kept_header headers.now) (kept_header header) bytes.now at) }
+    ensures { told_place result ≡ placed (read_body (G.meaning alg.now) (map kept_header headers.now) (kept_header header) bytes.now at) }
 {
     let sorts = header.sorts;
     let quantified = header.quantified;
@@ -212,8 +212,8 @@ pub(crate) fn check_bodies<G: Algebra>(
 ) -> Result<Bodies, ReadFault>
     requires small { length bytes.now ≤ 65536 }
     requires few { length headers.now ≤ 31 }
-    ensures reads { told_bodies result ≡ placed (each (read_body (meaning alg.now) (map kept_header headers.now)) (map kept_header headers.now) bytes.now at) }
-    ensures places { IfOk result (λ b. front (length headers.now) b.places ≡ places_of (read_body (meaning alg.now) (map kept_header headers.now)) (map kept_header headers.now) bytes.now at) }
+    ensures reads { told_bodies result ≡ placed (each (read_body (G.meaning alg.now) (map kept_header headers.now)) (map kept_header headers.now) bytes.now at) }
+    ensures places { IfOk result (λ b. front (length headers.now) b.places ≡ places_of (read_body (G.meaning alg.now) (map kept_header headers.now)) (map kept_header headers.now) bytes.now at) }
 {
     let mut places = [0usize; 31];
     let mut next = at;
@@ -234,7 +234,7 @@ pub struct ValueAt {
 
 fn read_value<G: Algebra>(alg: &G, bytes: &[u8], at: usize, sort: u8) -> Result<ValueAt, ReadFault>
     requires { length bytes.now ≤ 65536 }
-    ensures { told_value result ≡ read_value_of (meaning alg.now) sort bytes.now at }
+    ensures { told_value result ≡ read_value_of (G.meaning alg.now) sort bytes.now at }
 {
     let mut reader = BitReader { bytes, at };
     let Some(value) = reader.next(8) else {
@@ -276,7 +276,7 @@ pub(crate) fn read_values<G: Algebra>(
 ) -> Result<Values, ReadFault>
     requires small { length bytes.now ≤ 65536 }
     requires few { length sorts.now ≤ 15 }
-    ensures reads { told_values (length sorts.now) result ≡ each (read_value_of (meaning alg.now)) sorts.now bytes.now at }
+    ensures reads { told_values (length sorts.now) result ≡ each (read_value_of (G.meaning alg.now)) sorts.now bytes.now at }
     ensures zeros { IfOk result (λ v. v.values ≡ padded (front (length sorts.now) v.values)) }
 {
     let mut values = [0u8; 15];

@@ -33,7 +33,7 @@ fn quantifier_of(bit: u32) -> Quantifier
 
 fn read_sort<G: Algebra>(alg: &G, bytes: &[u8], at: usize) -> Result<Checked, ReadFault>
     requires { length bytes.now ≤ 65536 }
-    ensures { told result ≡ read_sort (meaning alg.now) bytes.now at }
+    ensures { told result ≡ read_sort (G.meaning alg.now) bytes.now at }
 {
     let mut reader = BitReader { bytes, at };
     let Some(sort) = reader.next(4) else {
@@ -63,7 +63,7 @@ pub struct Sorts {
 fn read_sorts<G: Algebra>(alg: &G, bytes: &[u8], at: usize, count: u8) -> Result<Sorts, ReadFault>
     requires small { length bytes.now ≤ 65536 }
     requires few { count ≤ 15 }
-    ensures { told_sorts count result ≡ repeated (read_sort (meaning alg.now)) count bytes.now at }
+    ensures { told_sorts count result ≡ repeated (read_sort (G.meaning alg.now)) count bytes.now at }
 {
     let mut sorts = [0u8; 15];
     let mut next = at;
@@ -83,7 +83,7 @@ pub struct QuantifiedAt {
 
 fn read_quantified<G: Algebra>(alg: &G, bytes: &[u8], at: usize) -> Result<QuantifiedAt, ReadFault>
     requires { length bytes.now ≤ 65536 }
-    ensures { told_quantified result ≡ read_quantified (meaning alg.now) bytes.now at }
+    ensures { told_quantified result ≡ read_quantified (G.meaning alg.now) bytes.now at }
 {
     let mut reader = BitReader { bytes, at };
     let Some(kind) = reader.next(1) else {
@@ -116,7 +116,7 @@ fn read_quantifieds<G: Algebra>(
 ) -> Result<Quantifieds, ReadFault>
     requires small { length bytes.now ≤ 65536 }
     requires few { count ≤ 3 }
-    ensures { told_quantifieds count result ≡ repeated (read_quantified (meaning alg.now)) count bytes.now at }
+    ensures { told_quantifieds count result ≡ repeated (read_quantified (G.meaning alg.now)) count bytes.now at }
 {
     let mut quantified = [Quantified {
         quantifier: Quantifier::Exists,
@@ -139,7 +139,7 @@ pub struct HeaderAt {
 
 fn read_header<G: Algebra>(alg: &G, bytes: &[u8], at: usize) -> Result<HeaderAt, ReadFault>
     requires { length bytes.now ≤ 65536 }
-    ensures { told_header result ≡ read_header (meaning alg.now) bytes.now at }
+    ensures { told_header result ≡ read_header (G.meaning alg.now) bytes.now at }
 {
     let mut reader = BitReader { bytes, at };
     let Some(sign) = reader.next(1) else {
@@ -196,7 +196,7 @@ pub(crate) fn read_headers<G: Algebra>(
 ) -> Result<Headers, ReadFault>
     requires small { length bytes.now ≤ 65536 }
     requires few { count ≤ 31 }
-    ensures { told_headers count result ≡ repeated (read_header (meaning alg.now)) count bytes.now at }
+    ensures { told_headers count result ≡ repeated (read_header (G.meaning alg.now)) count bytes.now at }
 {
     let sorts = [0u8; 15];
     let quantified = [Quantified {

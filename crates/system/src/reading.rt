@@ -23,7 +23,7 @@ fn read_rest<G: Algebra>(
 ) -> Result<Rest, ReadFault>
     requires small { length bytes.now ≤ 65536 }
     requires few { length headers.now ≤ 31 }
-    ensures reads { RestTold (meaning alg.now) (map kept_header headers.now) bytes.now at result }
+    ensures reads { RestTold (G.meaning alg.now) (map kept_header headers.now) bytes.now at result }
     ensures present { IfOk result (λ t. t.start.equation < length headers.now) }
 {
     let bodies = check_bodies(alg, headers, bytes, at)?;
@@ -51,7 +51,7 @@ fn read_rest<G: Algebra>(
 
 fn read_system<G: Algebra>(alg: &G, bytes: &[u8]) -> Result<Outline, ReadFault>
     requires { length bytes.now ≤ 65536 }
-    ensures { SystemTold (meaning alg.now) bytes.now result }
+    ensures { SystemTold (G.meaning alg.now) bytes.now result }
 {
     let mut reader = BitReader { bytes, at: 0 };
     let Some(count) = reader.next(5) else {
@@ -107,7 +107,7 @@ fn check_ending(bytes: &[u8], at: usize) -> Result<(), ReadFault>
 
 /// Reads the file of a system that fits the algebra.
 pub fn read<G: Algebra>(alg: &G, file: &[u8]) -> Result<Outline, ReadFault>
-    ensures { Read (meaning alg.now) file.now result }
+    ensures { Read (G.meaning alg.now) file.now result }
 {
     if file.len() == 0 || file.len() > LONGEST {
         return Err(ReadFault {

@@ -122,7 +122,7 @@ fn check_value<G: Algebra>(
     need: Option<u8>,
 ) -> Result<Checked, ReadFault>
     requires { length bytes.now ≤ 65536 }
-    ensures { (c : Names) (part : Option ℕ → Reader Sorted) → told result ≡ sorts (read_value (meaning alg.now) c part start need bytes.now at) }
+    ensures { (c : Names) (part : Option ℕ → Reader Sorted) → told result ≡ sorts (read_value (G.meaning alg.now) c part start need bytes.now at) }
 {
     let mut reader = BitReader { bytes, at };
     let Some(sort) = reader.next(4) else {
@@ -179,7 +179,7 @@ fn check_operation<G: Algebra>(
     need: Option<u8>,
 ) -> Result<Operation, ReadFault>
     requires { length bytes.now ≤ 65536 }
-    ensures { (c : Names) (part : Option ℕ → Reader Sorted) → operated (meaning alg.now) part bytes.now result ≡ read_operation (meaning alg.now) c part start need bytes.now at }
+    ensures { (c : Names) (part : Option ℕ → Reader Sorted) → operated (G.meaning alg.now) part bytes.now result ≡ read_operation (G.meaning alg.now) c part start need bytes.now at }
 {
     let mut reader = BitReader { bytes, at };
     let Some(op) = reader.next(6) else {
@@ -224,7 +224,7 @@ pub(crate) fn check_term<G: Algebra>(
     need: Option<u8>,
 ) -> Result<Checked, ReadFault>
     requires { length bytes.now ≤ 65536 }
-    ensures { told result ≡ sorts (read_term (meaning alg.now) (scoped scope.entry) depth need bytes.now at) }
+    ensures { told result ≡ sorts (read_term (G.meaning alg.now) (scoped scope.entry) depth need bytes.now at) }
 {
     let mut reader = BitReader { bytes, at };
     let Some(kind) = reader.next(3) else {

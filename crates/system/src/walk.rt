@@ -15,8 +15,8 @@ use terms::view::{View, end_of_term};
 
 /// The opening of the body at the place.
 pub fn open_body<G: Algebra>(alg: &G, bytes: &[u8], at: usize) -> Option<BodyAt>
-    ensures places { BodyPlaces (meaning alg.now) bytes.now at result }
-    ensures found { BodyFound (meaning alg.now) bytes.now at result }
+    ensures places { BodyPlaces (G.meaning alg.now) bytes.now at result }
+    ensures found { BodyFound (G.meaning alg.now) bytes.now at result }
 {
     let end = end_of_term(alg, View { bytes, at }, DEPTH)?;
     let mut reader = BitReader { bytes, at: end };
@@ -30,8 +30,8 @@ pub fn open_body<G: Algebra>(alg: &G, bytes: &[u8], at: usize) -> Option<BodyAt>
 
 /// The opening of the clause at the place.
 pub fn open_clause<G: Algebra>(alg: &G, bytes: &[u8], at: usize) -> Option<ClauseAt>
-    ensures places { ClausePlaces (meaning alg.now) bytes.now at result }
-    ensures found { ClauseFound (meaning alg.now) bytes.now at result }
+    ensures places { ClausePlaces (G.meaning alg.now) bytes.now at result }
+    ensures found { ClauseFound (G.meaning alg.now) bytes.now at result }
 {
     let end = end_of_term(alg, View { bytes, at }, DEPTH)?;
     let mut reader = BitReader { bytes, at: end };
@@ -45,7 +45,7 @@ pub fn open_clause<G: Algebra>(alg: &G, bytes: &[u8], at: usize) -> Option<Claus
 
 // The places of the arguments for an equation's parameters, from the place on.
 fn arguments_at<G: Algebra>(alg: &G, header: Header, bytes: &[u8], at: usize) -> Option<ArgumentsAt>
-    ensures places { arguments_of header.count result ≡ term_places (meaning alg.now) header.count bytes.now at }
+    ensures places { arguments_of header.count result ≡ term_places (G.meaning alg.now) header.count bytes.now at }
     ensures zeros { IfSome result (λ x. (header.count ≡ length (front header.count x.places)) × (x.places ≡ padded (front header.count x.places))) }
     ensures sorts { header.count ≡ length (kept_header header).sorts }
 {
@@ -65,8 +65,8 @@ pub fn open_occurrence<G: Algebra>(
     bytes: &[u8],
     at: usize,
 ) -> Option<OccurrenceAt>
-    ensures places { OccurrencePlaces (meaning alg.now) (kept_headers outline.now) bytes.now at result }
-    ensures found { OccurrenceFound (meaning alg.now) (kept_headers outline.now) bytes.now at result }
+    ensures places { OccurrencePlaces (G.meaning alg.now) (kept_headers outline.now) bytes.now at result }
+    ensures found { OccurrenceFound (G.meaning alg.now) (kept_headers outline.now) bytes.now at result }
 {
     let mut reader = BitReader { bytes, at };
     let target = reader.next(5)?;
@@ -92,8 +92,8 @@ pub fn end_of_clause<G: Algebra>(
     bytes: &[u8],
     at: usize,
 ) -> Option<usize>
-    ensures places { result ≡ clause_end (meaning alg.now) (kept_headers outline.now) bytes.now at }
-    ensures found { EndFound (meaning alg.now) (kept_headers outline.now) bytes.now at result }
+    ensures places { result ≡ clause_end (G.meaning alg.now) (kept_headers outline.now) bytes.now at }
+    ensures found { EndFound (G.meaning alg.now) (kept_headers outline.now) bytes.now at result }
 {
     let clause = open_clause(alg, bytes, at)?;
     let mut next = clause.next;

@@ -19,7 +19,7 @@ fn either(x: bool, y: bool) -> bool
 
 // Whether the parameter numbered `k` occurs in the term at the view, where one stands there.
 fn occurs_at<G: Algebra>(alg: &G, view: View, k: u8, depth: u8) -> bool
-    ensures { (t : Tree) → standing (meaning alg.now) depth view.entry.bytes.now view.entry.at ≡ Some t → result ≡ occurs_in k t }
+    ensures { (t : Tree) → standing (G.meaning alg.now) depth view.entry.bytes.now view.entry.at ≡ Some t → result ≡ occurs_in k t }
 {
     if depth == 0 {
         return false;
@@ -67,8 +67,8 @@ fn occurs_at<G: Algebra>(alg: &G, view: View, k: u8, depth: u8) -> bool
 
 /// Whether the parameter numbered `k` occurs in the term at the view, which has depth at most `depth`; false where no such term stands there.
 pub fn occurs<G: Algebra>(alg: &G, view: View, k: u8, depth: u8) -> bool
-    ensures value { result ≡ occurs_at k (standing (meaning alg.now) depth view.entry.bytes.now view.entry.at) }
-    ensures accepted { (c : Scope) (need : Option ℕ) (x : Sorted) (q : ℕ) → length view.entry.bytes.now ≤ 65536 → read_term (meaning alg.now) c depth need view.entry.bytes.now view.entry.at ≡ next x q → result ≡ occurs_in k x.the_term }
+    ensures value { result ≡ occurs_at k (standing (G.meaning alg.now) depth view.entry.bytes.now view.entry.at) }
+    ensures accepted { (c : Scope) (need : Option ℕ) (x : Sorted) (q : ℕ) → length view.entry.bytes.now ≤ 65536 → read_term (G.meaning alg.now) c depth need view.entry.bytes.now view.entry.at ≡ next x q → result ≡ occurs_in k x.the_term }
 {
     let Some(_) = end_of_term(alg, view, depth) else {
         return false;

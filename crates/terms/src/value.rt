@@ -82,14 +82,14 @@ fn alike(x: Option<u8>, y: Option<u8>) -> Option<u8>
 }
 
 fn apply_one<G: Algebra>(alg: &G, op: u8, x: Option<u8>) -> Option<u8>
-    ensures { (ps vs : List (Option ℕ)) → result ≡ kind_known (meaning alg.now) ps vs (operation op) (x ∷ []) }
+    ensures { (ps vs : List (Option ℕ)) → result ≡ kind_known (G.meaning alg.now) ps vs (operation op) (x ∷ []) }
 {
     let x = x?;
     alg.value(op, &[x])
 }
 
 fn apply_two<G: Algebra>(alg: &G, op: u8, x: Option<u8>, y: Option<u8>) -> Option<u8>
-    ensures { (ps vs : List (Option ℕ)) → result ≡ kind_known (meaning alg.now) ps vs (operation op) (x ∷ y ∷ []) }
+    ensures { (ps vs : List (Option ℕ)) → result ≡ kind_known (G.meaning alg.now) ps vs (operation op) (x ∷ y ∷ []) }
 {
     let x = x?;
     let y = y?;
@@ -103,7 +103,7 @@ fn apply_three<G: Algebra>(
     y: Option<u8>,
     z: Option<u8>,
 ) -> Option<u8>
-    ensures { (ps vs : List (Option ℕ)) → result ≡ kind_known (meaning alg.now) ps vs (operation op) (x ∷ y ∷ z ∷ []) }
+    ensures { (ps vs : List (Option ℕ)) → result ≡ kind_known (G.meaning alg.now) ps vs (operation op) (x ∷ y ∷ z ∷ []) }
 {
     let x = x?;
     let y = y?;
@@ -113,7 +113,7 @@ fn apply_three<G: Algebra>(
 
 // The known value of the term at the view, where one stands there.
 fn known_at<G: Algebra>(alg: &G, env: &Environment, view: View, depth: u8) -> Option<u8>
-    ensures { (t : Tree) → standing (meaning alg.now) depth view.entry.bytes.now view.entry.at ≡ Some t → result ≡ fold t (kind_known (meaning alg.now) env.now.parameters env.now.variables) }
+    ensures { (t : Tree) → standing (G.meaning alg.now) depth view.entry.bytes.now view.entry.at ≡ Some t → result ≡ fold t (kind_known (G.meaning alg.now) env.now.parameters env.now.variables) }
 {
     if depth == 0 {
         return None;
@@ -161,8 +161,8 @@ fn known_at<G: Algebra>(alg: &G, env: &Environment, view: View, depth: u8) -> Op
 
 /// The known value of the term at the view, which has depth at most `depth`; none where no such term stands there.
 pub fn known_value<G: Algebra>(alg: &G, env: &Environment, view: View, depth: u8) -> Option<u8>
-    ensures value { (ps vs : List (Option ℕ)) → Alike env.now.parameters ps → Alike env.now.variables vs → result ≡ bind (standing (meaning alg.now) depth view.entry.bytes.now view.entry.at) (λ t. fold t (kind_known (meaning alg.now) ps vs)) }
-    ensures accepted { (c : Scope) (need : Option ℕ) (x : Sorted) (q : ℕ) → length view.entry.bytes.now ≤ 65536 → read_term (meaning alg.now) c depth need view.entry.bytes.now view.entry.at ≡ next x q → (ps vs : List (Option ℕ)) → Alike env.now.parameters ps → Alike env.now.variables vs → result ≡ fold x.the_term (kind_known (meaning alg.now) ps vs) }
+    ensures value { (ps vs : List (Option ℕ)) → Alike env.now.parameters ps → Alike env.now.variables vs → result ≡ bind (standing (G.meaning alg.now) depth view.entry.bytes.now view.entry.at) (λ t. fold t (kind_known (G.meaning alg.now) ps vs)) }
+    ensures accepted { (c : Scope) (need : Option ℕ) (x : Sorted) (q : ℕ) → length view.entry.bytes.now ≤ 65536 → read_term (G.meaning alg.now) c depth need view.entry.bytes.now view.entry.at ≡ next x q → (ps vs : List (Option ℕ)) → Alike env.now.parameters ps → Alike env.now.variables vs → result ≡ fold x.the_term (kind_known (G.meaning alg.now) ps vs) }
 {
     let _end = end_of_term(alg, view, depth)?;
     known_at(alg, env, view, depth)

@@ -79,8 +79,8 @@ fn field_at(bytes: &[u8], at: usize, width: u32) -> Option<Field>
 
 // The kind of the term at the view.
 fn open_term<G: Algebra>(alg: &G, view: View) -> Option<Opening>
-    ensures reads { opening_of result ≡ opening (meaning alg.now) view.entry.bytes.now view.entry.at }
-    ensures apt { IfSome result (λ o. Apt (meaning alg.now) o.kind o.parts) }
+    ensures reads { opening_of result ≡ opening (G.meaning alg.now) view.entry.bytes.now view.entry.at }
+    ensures apt { IfSome result (λ o. Apt (G.meaning alg.now) o.kind o.parts) }
 {
     let kind = field_at(view.bytes, view.at, 3)?;
     let at = kind.next;
@@ -147,8 +147,8 @@ fn open_term<G: Algebra>(alg: &G, view: View) -> Option<Opening>
 
 /// The place behind the term at the view, which has depth at most `depth`.
 pub fn end_of_term<G: Algebra>(alg: &G, view: View, depth: u8) -> Option<usize>
-    ensures reads { result ≡ behind (shape (meaning alg.now) depth view.entry.bytes.now view.entry.at) }
-    ensures accepted { ReadStands (meaning alg.now) depth view.entry.bytes.now view.entry.at }
+    ensures reads { result ≡ behind (shape (G.meaning alg.now) depth view.entry.bytes.now view.entry.at) }
+    ensures accepted { ReadStands (G.meaning alg.now) depth view.entry.bytes.now view.entry.at }
 {
     if depth == 0 {
         return None;
@@ -170,7 +170,7 @@ pub fn end_of_term<G: Algebra>(alg: &G, view: View, depth: u8) -> Option<usize>
 
 // The view behind the term at the view.
 fn after<'a, G: Algebra>(alg: &G, view: View<'a>, depth: u8) -> Option<View<'a>>
-    ensures { MatchOption result (behind (shape (meaning alg.now) depth view.entry.bytes.now view.entry.at) ≡ None) (λ v. (v.bytes.now ≡ view.entry.bytes.now) × (behind (shape (meaning alg.now) depth view.entry.bytes.now view.entry.at) ≡ Some v.at)) }
+    ensures { MatchOption result (behind (shape (G.meaning alg.now) depth view.entry.bytes.now view.entry.at) ≡ None) (λ v. (v.bytes.now ≡ view.entry.bytes.now) × (behind (shape (G.meaning alg.now) depth view.entry.bytes.now view.entry.at) ≡ Some v.at)) }
 {
     let at = end_of_term(alg, view, depth)?;
     Some(View {
@@ -182,7 +182,7 @@ fn after<'a, G: Algebra>(alg: &G, view: View<'a>, depth: u8) -> Option<View<'a>>
 // The arguments of an operation, the first at the view.
 fn split<'a, G: Algebra>(alg: &G, first: View<'a>, count: u8, depth: u8) -> Option<Parts<'a>>
     requires { count ≤ 3 }
-    ensures reads { bind result (parts_of (meaning alg.now) depth) ≡ what (row (shape (meaning alg.now) depth) count first.entry.bytes.now first.entry.at) }
+    ensures reads { bind result (parts_of (G.meaning alg.now) depth) ≡ what (row (shape (G.meaning alg.now) depth) count first.entry.bytes.now first.entry.at) }
     ensures within { IfSome result (PartsIn first.entry.bytes.now) }
 {
     if count == 0 {
@@ -201,7 +201,7 @@ fn split<'a, G: Algebra>(alg: &G, first: View<'a>, count: u8, depth: u8) -> Opti
 
 /// The term at the view, which has depth at most `depth`, with its parts as views.
 pub fn read_term<'a, G: Algebra>(alg: &G, view: View<'a>, depth: u8) -> Option<Term<'a>>
-    ensures reads { bind result (term_of (meaning alg.now) (depth - 1)) ≡ standing (meaning alg.now) depth view.entry.bytes.now view.entry.at }
+    ensures reads { bind result (term_of (G.meaning alg.now) (depth - 1)) ≡ standing (G.meaning alg.now) depth view.entry.bytes.now view.entry.at }
     ensures within { IfSome result (In view.entry.bytes.now) }
 {
     if depth == 0 {

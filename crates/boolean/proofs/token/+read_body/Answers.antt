@@ -27,12 +27,12 @@ returns-in-err-part t c =
     let e = c.in-err-part.field-0.0 in
     let o = opened n c.args.depth f c.args.at k q c.if-depth-eq0.false (c.in-Some.ensures.reads c.requires.small (lit≤ tt)) in
     ap told_said (passed c.from-residual.result e c.from-residual.ensures.1) ∙
-    sym (c.loop-i.invariant ∙ parts_stop f (read_token n d) (eqb k 3) h c.loop-i.truth (c.in-Some-next.less + 1) c.loop-i.-i c.loop-i.next e.reason e.place (omega arith) c.in-err-part.ensures) ∙
+    sym (c.loop-i.invariant ∙ parts_stop f (read_token n d) (eqb k 3) h c.loop-i.truth (c.in-Some-next.less + 1) c.loop-i._i c.loop-i.next e.reason e.place (omega arith) c.in-err-part.ensures) ∙
     kind_parts n d f c.args.at q h k c.in-Some-next.less c.next-in-2.new.self.at (omega arith) (omega arith) (c.in-Some-next.ensures.reads c.requires.small (lit≤ tt)) ∙ ap (mapped (λ x. said x h)) (sym o)
 
 pub loop-i-preserved : goal.loop-i-preserved
 loop-i-preserved t c =
-    c.loop-i.invariant ∙ parts_next c.args.bytes.now (read_token c.args.variables (c.args.depth - 1)) (eqb c.in-Some.kind 3) (assigned c.args.truths.now) c.loop-i.truth c.in-ok-part.part.truth c.joined-truth.result (c.in-Some-next.less + 1) c.loop-i.-i c.loop-i.next c.in-ok-part.part.next (omega arith) c.in-ok-part.ensures c.joined-truth.ensures
+    c.loop-i.invariant ∙ parts_next c.args.bytes.now (read_token c.args.variables (c.args.depth - 1)) (eqb c.in-Some.kind 3) (assigned c.args.truths.now) c.loop-i.truth c.in-ok-part.part.truth c.joined-truth.result (c.in-Some-next.less + 1) c.loop-i._i c.loop-i.next c.in-ok-part.part.next (omega arith) c.in-ok-part.ensures c.joined-truth.ensures
 
 pub returns-in-0 : goal.returns-in-0
 returns-in-0 t c =
@@ -64,7 +64,7 @@ returns-after-loop-i t c =
     let k = c.in-Some.kind in
     let q = c.next.new.self.at in
     let o = opened n c.args.depth f c.args.at k q c.if-depth-eq0.false (c.in-Some.ensures.reads c.requires.small (lit≤ tt)) in
-    sym (c.loop-i.invariant ∙ parts_end f (read_token n d) (eqb k 3) h c.loop-i.truth (c.in-Some-next.less + 1) c.loop-i.-i c.loop-i.next (omega arith)) ∙
+    sym (c.loop-i.invariant ∙ parts_end f (read_token n d) (eqb k 3) h c.loop-i.truth (c.in-Some-next.less + 1) c.loop-i._i c.loop-i.next (omega arith)) ∙
     kind_parts n d f c.args.at q h k c.in-Some-next.less c.next-in-2.new.self.at (omega arith) (omega arith) (c.in-Some-next.ensures.reads c.requires.small (lit≤ tt)) ∙ ap (mapped (λ x. said x h)) (sym o)
 
 pub returns-in-default-kind : goal.returns-in-default-kind

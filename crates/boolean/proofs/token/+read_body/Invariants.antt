@@ -12,4 +12,4 @@ abbrev pub invariant-loop-i : goal.invariant-loop-i
 invariant-loop-i l =
     let r = read_token l.variables (l.depth - 1) in
     mapped (joined_parts l.any l.initial.truth (assigned l.truths)) (repeated r (l.less + 1) l.bytes l.initial.next) ≡
-    mapped (joined_parts l.any l.truth (assigned l.truths)) (repeated r (l.less + 1 - l.-i) l.bytes l.next)
+    mapped (joined_parts l.any l.truth (assigned l.truths)) (repeated r (l.less + 1 - l._i) l.bytes l.next)

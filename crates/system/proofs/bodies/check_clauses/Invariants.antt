@@ -8,4 +8,4 @@ use Rattle.system.proofs.bodies.check_clauses.Given as goal
 abbrev pub invariant-loop-i : goal.invariant-loop-i
 invariant-loop-i g l =
     let r = read_clause (g.G.Algebra.meaning l.alg) (map kept_header l.headers) (scoped l.scope) in
-    placed (repeated r l.count l.bytes l.initial.next) ≡ placed (repeated r (l.count - l.-i) l.bytes l.next)
+    placed (repeated r l.count l.bytes l.initial.next) ≡ placed (repeated r (l.count - l._i) l.bytes l.next)

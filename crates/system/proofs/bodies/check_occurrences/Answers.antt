@@ -11,9 +11,9 @@ returns-in-err-next g c =
     let e = c.in-err-next.field-0.0 in
     let r = read_occurrence (g.G.Algebra.meaning c.args.alg.now) (map kept_header c.args.headers.now) (scoped c.args.scope) in
     ap told_place (passed c.from-residual.result e c.from-residual.ensures.1) ∙
-    sym (c.loop-i.invariant ∙ repeated_stop c.args.bytes.now r c.args.count c.loop-i.-i c.loop-i.next e.reason e.place (omega arith) c.in-err-next.ensures)
+    sym (c.loop-i.invariant ∙ repeated_stop c.args.bytes.now r c.args.count c.loop-i._i c.loop-i.next e.reason e.place (omega arith) c.in-err-next.ensures)
 
 pub loop-i-preserved : goal.loop-i-preserved
 loop-i-preserved g c =
     let r = read_occurrence (g.G.Algebra.meaning c.args.alg.now) (map kept_header c.args.headers.now) (scoped c.args.scope) in
-    c.loop-i.invariant ∙ repeated_next c.args.bytes.now r c.args.count c.loop-i.-i c.loop-i.next c.in-ok-next.next (omega arith) c.in-ok-next.ensures
+    c.loop-i.invariant ∙ repeated_next c.args.bytes.now r c.args.count c.loop-i._i c.loop-i.next c.in-ok-next.next (omega arith) c.in-ok-next.ensures

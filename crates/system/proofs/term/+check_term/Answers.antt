@@ -142,7 +142,7 @@ returns-in-err-next-2 g t c =
     let o = opened a s d n f p c.in-Some.kind q c.in-Some.kind c.if-depth-eq0.false (c.in-Some.ensures.reads c.requires (lit≤ tt)) (refl) in
     let e = c.in-err-next-2.field-0.0 in
     let m = ap placed c.in-err-next-2.ensures ∙ placed_sorts (part (Some 0) f c.loop-i.next) in
-    ap told (passed c.from-residual-in-err-next-2.result c.in-err-next-2.field-0.0 c.from-residual-in-err-next-2.ensures.1) ∙ ap (λ m. follow m (λ _ t. next 0 t)) (sym (c.loop-i.invariant ∙ repeated_stop f (part (Some 0)) c.if-kind-eq4.count c.loop-i.-i c.loop-i.next e.reason e.place (omega arith) m)) ∙ kinds_yes a s part p n f q c.in-Some.kind c.if-kind-eq4.count (omega arith) (omega arith) (λ x. omega arith) (λ x. omega arith) c.suits.result c.if-not-suits.false (c.suits.ensures f q) ∙ ap sorts (sym o)
+    ap told (passed c.from-residual-in-err-next-2.result c.in-err-next-2.field-0.0 c.from-residual-in-err-next-2.ensures.1) ∙ ap (λ m. follow m (λ _ t. next 0 t)) (sym (c.loop-i.invariant ∙ repeated_stop f (part (Some 0)) c.if-kind-eq4.count c.loop-i._i c.loop-i.next e.reason e.place (omega arith) m)) ∙ kinds_yes a s part p n f q c.in-Some.kind c.if-kind-eq4.count (omega arith) (omega arith) (λ x. omega arith) (λ x. omega arith) c.suits.result c.if-not-suits.false (c.suits.ensures f q) ∙ ap sorts (sym o)
 
 pub loop-i-preserved : goal.loop-i-preserved
 loop-i-preserved g t c =
@@ -156,7 +156,7 @@ loop-i-preserved g t c =
     let part = read_term a s (d - 1) in
     let o = opened a s d n f p c.in-Some.kind q c.in-Some.kind c.if-depth-eq0.false (c.in-Some.ensures.reads c.requires (lit≤ tt)) (refl) in
     let m = ap placed c.in-ok-next-2.ensures ∙ placed_sorts (part (Some 0) f c.loop-i.next) in
-    c.loop-i.invariant ∙ repeated_next f (part (Some 0)) c.if-kind-eq4.count c.loop-i.-i c.loop-i.next c.in-ok-next-2.field-0.next (omega arith) m
+    c.loop-i.invariant ∙ repeated_next f (part (Some 0)) c.if-kind-eq4.count c.loop-i._i c.loop-i.next c.in-ok-next-2.field-0.next (omega arith) m
 
 pub returns-after-loop-i : goal.returns-after-loop-i
 returns-after-loop-i g t c =
@@ -169,7 +169,7 @@ returns-after-loop-i g t c =
     let q = c.next.new.self.at in
     let part = read_term a s (d - 1) in
     let o = opened a s d n f p c.in-Some.kind q c.in-Some.kind c.if-depth-eq0.false (c.in-Some.ensures.reads c.requires (lit≤ tt)) (refl) in
-    ap (λ m. follow m (λ _ t. next 0 t)) (sym (c.loop-i.invariant ∙ repeated_end f (part (Some 0)) c.if-kind-eq4.count c.loop-i.-i c.loop-i.next (omega arith))) ∙ kinds_yes a s part p n f q c.in-Some.kind c.if-kind-eq4.count (omega arith) (omega arith) (λ x. omega arith) (λ x. omega arith) c.suits.result c.if-not-suits.false (c.suits.ensures f q) ∙ ap sorts (sym o)
+    ap (λ m. follow m (λ _ t. next 0 t)) (sym (c.loop-i.invariant ∙ repeated_end f (part (Some 0)) c.if-kind-eq4.count c.loop-i._i c.loop-i.next (omega arith))) ∙ kinds_yes a s part p n f q c.in-Some.kind c.if-kind-eq4.count (omega arith) (omega arith) (λ x. omega arith) (λ x. omega arith) c.suits.result c.if-not-suits.false (c.suits.ensures f q) ∙ ap sorts (sym o)
 
 pub returns-then-not-suits-2 : goal.returns-then-not-suits-2
 returns-then-not-suits-2 g t c =

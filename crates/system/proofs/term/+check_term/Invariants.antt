@@ -17,4 +17,4 @@ invariant-loop-k g l =
 abbrev pub invariant-loop-i : goal.invariant-loop-i
 invariant-loop-i g l =
     let r = read_term (g.G.Algebra.meaning l.alg) (scoped l.scope) (l.depth - 1) (Some 0) in
-    placed (repeated r l.count l.bytes l.initial.next) ≡ placed (repeated r (l.count - l.-i) l.bytes l.next)
+    placed (repeated r l.count l.bytes l.initial.next) ≡ placed (repeated r (l.count - l._i) l.bytes l.next)

@@ -26,7 +26,7 @@ returns-in-err-next g c =
     let k = c.in-ok-clause.clause in
     let q = c.in-ok-clause.ensures.places in
     let s = clause_end_at a f hs c.args.at q.1.0 k.next k.count q.1.1.1 q.1.1.0 in
-    let p = c.from-residual-in-err-next.ensures ∙ sym (s ∙ c.loop-k.invariant ∙ end_none a f hs k.count c.loop-k.-k c.loop-k.next (omega arith) c.in-err-next.ensures.places) in
+    let p = c.from-residual-in-err-next.ensures ∙ sym (s ∙ c.loop-k.invariant ∙ end_none a f hs k.count c.loop-k._k c.loop-k.next (omega arith) c.in-err-next.ensures.places) in
     record { places = p; found = end_found a f c.args.at hs c.from-residual-in-err-next.result p }
 
 pub loop-k-preserved : goal.loop-k-preserved
@@ -36,7 +36,7 @@ loop-k-preserved g c =
     let hs = kept_headers c.args.outline.now in
     let k = c.in-ok-clause.clause in
     let x = c.in-ok-next.field-0 in
-    c.loop-k.invariant ∙ end_next a f hs k.count c.loop-k.-k c.loop-k.next x.target (take x.count x.arguments) x.next (omega arith) c.in-ok-next.ensures.places.0
+    c.loop-k.invariant ∙ end_next a f hs k.count c.loop-k._k c.loop-k.next x.target (take x.count x.arguments) x.next (omega arith) c.in-ok-next.ensures.places.0
 
 pub returns : goal.returns
 returns g c =
@@ -46,5 +46,5 @@ returns g c =
     let k = c.in-ok-clause.clause in
     let q = c.in-ok-clause.ensures.places in
     let s = clause_end_at a f hs c.args.at q.1.0 k.next k.count q.1.1.1 q.1.1.0 in
-    let p = sym (s ∙ c.loop-k.invariant ∙ end_end a f hs k.count c.loop-k.-k c.loop-k.next (omega arith)) in
+    let p = sym (s ∙ c.loop-k.invariant ∙ end_end a f hs k.count c.loop-k._k c.loop-k.next (omega arith)) in
     record { places = p; found = end_found a f c.args.at hs (Some c.loop-k.next) p }

@@ -7,4 +7,4 @@ abbrev pub invariant-loop-k : goal.invariant-loop-k
 invariant-loop-k g l =
     let a = g.G.Algebra.meaning l.alg in
     let hs = kept_headers l.outline in
-    occurrences_end a hs l.-k-end l.bytes l.initial.next ≡ occurrences_end a hs (l.-k-end - l.-k) l.bytes l.next
+    occurrences_end a hs l._k-end l.bytes l.initial.next ≡ occurrences_end a hs (l._k-end - l._k) l.bytes l.next

@@ -1,4 +1,4 @@
 use Rattle.terms.proofs.occur.+occurs_at.Given as goal
 
-abbrev pub decreases-occurs-at : goal.decreases-occurs-at
-decreases-occurs-at g l = l.depth
+abbrev pub decreases-occurs_at : goal.decreases-occurs_at
+decreases-occurs_at g l = l.depth

@@ -2,10 +2,10 @@ use Rattle.std.proofs.Common.{◌≡◌, ◌-◌}
 use Rattle.terms.specs.Shapes.{row, shape, behind}
 use Rattle.terms.proofs.view.+end_of_term.Given as goal
 
-abbrev pub decreases-end-of-term : goal.decreases-end-of-term
-decreases-end-of-term g l = l.depth
+abbrev pub decreases-end_of_term : goal.decreases-end_of_term
+decreases-end_of_term g l = l.depth
 
 abbrev pub invariant-loop-i : goal.invariant-loop-i
 invariant-loop-i g l =
     let r = shape (g.G.Algebra.meaning l.alg) (l.depth - 1) in
-    behind (row r l.-i-end l.view.bytes.now l.initial.at) ≡ behind (row r (l.-i-end - l.-i) l.view.bytes.now l.at)
+    behind (row r l._i-end l.view.bytes.now l.initial.at) ≡ behind (row r (l._i-end - l._i) l.view.bytes.now l.at)
