@@ -3,3 +3,4 @@ pub mod Files
 pub mod Bodies
 pub mod Whole
 pub mod Walks
+pub mod Instances

@@ -2,6 +2,7 @@
 ghost use Rattle.std.specs.Prelude.{◌≡◌, Decides};
 ghost use Rattle.std.specs.Cmp.Rules.{comparing};
 ghost use Rattle.std.proofs.Common.{rules};
+ghost use Rattle.system.specs.Instances.{same_instance};
 
 /// An equation together with values for its parameters, and zeros in the unused places.
 #[derive(Clone, Copy)]
@@ -11,11 +12,14 @@ pub struct Instance {
 }
 
 impl PartialEq for Instance {
-    ghost equals = { λ a b r. Decides r (a ≡ b) };
+    ghost eq = { same_instance };
 
     ghost laws = { Prim.search (comparing, rules) };
 
-    fn eq(&self, other: &Instance) -> bool {
+    fn eq(&self, other: &Instance) -> bool
+        ensures same { result ≡ same_instance self.now other.now }
+        ensures decides { Decides result (self.now ≡ other.now) }
+    {
         self.equation == other.equation && self.values == other.values
     }
 }

@@ -6,17 +6,17 @@ use Rattle.system.proofs.Rows.{passed}
 use Rattle.system.proofs.Walks.{again, walk_next, walk_stop, walk_end}
 use Rattle.system.proofs.bodies.check_arguments.Goals as goal
 
-pub returns-in-err-next : goal.returns-in-err-next
-returns-in-err-next g c =
-    let e = c.in-err-next.field-0.0 in
+pub returns-in_err-next : goal.returns-in_err-next
+returns-in_err-next g c =
+    let e = c.in_err-next.field-0.0 in
     let r = read_of (g.G.Algebra.meaning c.args.alg.now) (scoped c.args.scope) in
-    ap told_place (passed c.from-residual.result e c.from-residual.ensures.1) ∙
-    sym (c.loop-sort.invariant ∙ walk_stop c.args.bytes.now r c.args.sorts.now (get_or c.args.sorts.now c.loop-sort.sort-index 0) c.loop-sort.sort-index c.loop-sort.next e.reason e.place (omega arith) (again c.args.sorts.now c.loop-sort.sort-index) c.in-err-next.ensures)
+    ap told_place (passed c.from_residual.result e c.from_residual.ensures.1) ∙
+    sym (c.loop-sort.invariant ∙ walk_stop c.args.bytes.now r c.args.sorts.now (get_or c.args.sorts.now c.loop-sort.sort-index 0) c.loop-sort.sort-index c.loop-sort.next e.reason e.place (omega arith) (again c.args.sorts.now c.loop-sort.sort-index) c.in_err-next.ensures)
 
 pub loop-sort-preserved : goal.loop-sort-preserved
 loop-sort-preserved g c =
     let r = read_of (g.G.Algebra.meaning c.args.alg.now) (scoped c.args.scope) in
-    c.loop-sort.invariant ∙ walk_next c.args.bytes.now r c.args.sorts.now (get_or c.args.sorts.now c.loop-sort.sort-index 0) c.loop-sort.sort-index c.loop-sort.next c.in-ok-next.next (omega arith) (again c.args.sorts.now c.loop-sort.sort-index) c.in-ok-next.ensures
+    c.loop-sort.invariant ∙ walk_next c.args.bytes.now r c.args.sorts.now (get_or c.args.sorts.now c.loop-sort.sort-index 0) c.loop-sort.sort-index c.loop-sort.next c.in_ok-next.next (omega arith) (again c.args.sorts.now c.loop-sort.sort-index) c.in_ok-next.ensures
 
 pub returns : goal.returns
 returns g c =

@@ -14,22 +14,22 @@ loop-i-init g c =
     let r = read_body (g.G.Algebra.meaning c.args.alg.now) (map kept_header c.args.headers.now) in
     (refl, refl, ap placed (mapped_walk kept_header r c.args.headers.now c.args.bytes.now c.args.at))
 
-pub returns-in-err-next : goal.returns-in-err-next
-returns-in-err-next g c =
-    let e = c.in-err-next.field-0.0 in
+pub returns-in_err-next : goal.returns-in_err-next
+returns-in_err-next g c =
+    let e = c.in_err-next.field-0.0 in
     let r = read_body (g.G.Algebra.meaning c.args.alg.now) (map kept_header c.args.headers.now) in
     record {
-      reads = ap told_bodies (passed c.from-residual.result e c.from-residual.ensures.1) ∙
-          sym (c.loop-i.invariant.2 ∙ walk_stop c.args.bytes.now (λ (h : Header). r (kept_header h)) c.args.headers.now c.index-headers-i.result c.loop-i.i c.loop-i.next e.reason e.place (omega arith) c.index-headers-i.is c.in-err-next.ensures);
-      places = rw (passed c.from-residual.result e c.from-residual.ensures.1) tt;
+      reads = ap told_bodies (passed c.from_residual.result e c.from_residual.ensures.1) ∙
+          sym (c.loop-i.invariant.2 ∙ walk_stop c.args.bytes.now (λ (h : Header). r (kept_header h)) c.args.headers.now c.index-headers-i.result c.loop-i.i c.loop-i.next e.reason e.place (omega arith) c.index-headers-i.is c.in_err-next.ensures);
+      places = rw (passed c.from_residual.result e c.from_residual.ensures.1) tt;
     }
 
 pub loop-i-preserved : goal.loop-i-preserved
 loop-i-preserved g c =
     let r = read_body (g.G.Algebra.meaning c.args.alg.now) (map kept_header c.args.headers.now) in (
       length-set c.loop-i.places c.loop-i.i c.loop-i.next ∙ c.loop-i.invariant.0,
-      c.loop-i.invariant.1 ∙ places_next c.args.bytes.now kept_header r c.args.headers.now c.index-headers-i.result c.loop-i.places c.loop-i.i c.loop-i.next c.in-ok-next.next (omega arith) (omega (arith, c.loop-i.invariant.0)) c.index-headers-i.is c.in-ok-next.ensures,
-      c.loop-i.invariant.2 ∙ walk_next c.args.bytes.now (λ (h : Header). r (kept_header h)) c.args.headers.now c.index-headers-i.result c.loop-i.i c.loop-i.next c.in-ok-next.next (omega arith) c.index-headers-i.is c.in-ok-next.ensures,
+      c.loop-i.invariant.1 ∙ places_next c.args.bytes.now kept_header r c.args.headers.now c.index-headers-i.result c.loop-i.places c.loop-i.i c.loop-i.next c.in_ok-next.next (omega arith) (omega (arith, c.loop-i.invariant.0)) c.index-headers-i.is c.in_ok-next.ensures,
+      c.loop-i.invariant.2 ∙ walk_next c.args.bytes.now (λ (h : Header). r (kept_header h)) c.args.headers.now c.index-headers-i.result c.loop-i.i c.loop-i.next c.in_ok-next.next (omega arith) c.index-headers-i.is c.in_ok-next.ensures,
     )
 
 pub returns : goal.returns

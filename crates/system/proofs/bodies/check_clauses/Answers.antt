@@ -6,14 +6,14 @@ use Rattle.system.specs.Bodies.{told_place}
 use Rattle.system.proofs.Rows.{passed, repeated_next, repeated_stop}
 use Rattle.system.proofs.bodies.check_clauses.Goals as goal
 
-pub returns-in-err-next : goal.returns-in-err-next
-returns-in-err-next g c =
-    let e = c.in-err-next.field-0.0 in
+pub returns-in_err-next : goal.returns-in_err-next
+returns-in_err-next g c =
+    let e = c.in_err-next.field-0.0 in
     let r = read_clause (g.G.Algebra.meaning c.args.alg.now) (map kept_header c.args.headers.now) (scoped c.args.scope) in
-    ap told_place (passed c.from-residual.result e c.from-residual.ensures.1) ∙
-    sym (c.loop-i.invariant ∙ repeated_stop c.args.bytes.now r c.args.count c.loop-i._i c.loop-i.next e.reason e.place (omega arith) c.in-err-next.ensures)
+    ap told_place (passed c.from_residual.result e c.from_residual.ensures.1) ∙
+    sym (c.loop-i.invariant ∙ repeated_stop c.args.bytes.now r c.args.count c.loop-i._i c.loop-i.next e.reason e.place (omega arith) c.in_err-next.ensures)
 
 pub loop-i-preserved : goal.loop-i-preserved
 loop-i-preserved g c =
     let r = read_clause (g.G.Algebra.meaning c.args.alg.now) (map kept_header c.args.headers.now) (scoped c.args.scope) in
-    c.loop-i.invariant ∙ repeated_next c.args.bytes.now r c.args.count c.loop-i._i c.loop-i.next c.in-ok-next.next (omega arith) c.in-ok-next.ensures
+    c.loop-i.invariant ∙ repeated_next c.args.bytes.now r c.args.count c.loop-i._i c.loop-i.next c.in_ok-next.next (omega arith) c.in_ok-next.ensures

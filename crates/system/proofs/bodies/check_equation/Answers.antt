@@ -18,7 +18,7 @@ returns g c =
     let n : h.count - 0 ≡ h.count = omega arith in
     let m : h.number - 0 ≡ h.number = omega arith in
     let vs = (get_or h.quantified 0 d).sort ∷ (get_or h.quantified 1 d).sort ∷ (get_or h.quantified 2 d).sort ∷ [] in
-    c.check-body.ensures ∙ ap (λ k. body_places a hs (record { parameters = take k h.sorts; variables = take (h.number - 0) vs }) f c.args.at) n ∙
+    c.check_body.ensures ∙ ap (λ k. body_places a hs (record { parameters = take k h.sorts; variables = take (h.number - 0) vs }) f c.args.at) n ∙
     ap (λ k. body_places a hs (record { parameters = take h.count h.sorts; variables = take k vs }) f c.args.at) m ∙
     ap (λ v. body_places a hs (record { parameters = take h.count h.sorts; variables = v }) f c.args.at) (variables_same h.quantified d h.number long h.three) ∙
     body_same a hs (kept_header h) f c.args.at

@@ -11,15 +11,15 @@ returns g c =
     let a = g.G.Algebra.meaning c.args.alg.now in
     let hs = map kept_header c.args.headers.now in
     let f = c.args.bytes.now in
-    let b = c.in-ok-bodies.bodies in
-    let t = c.in-ok-start.start in
-    let v = c.in-ok-values.values in
+    let b = c.in_ok-bodies.bodies in
+    let t = c.in_ok-start.start in
+    let v = c.in_ok-values.values in
     let n : t.header.count - 0 ≡ t.header.count = omega arith in
     record {
-      reads = rest_read a hs f c.args.at (record { bodies = b.places; start = record { equation = t.index; values = v.values }; end = v.next }) b.next c.in-ok-bodies.ensures.reads
-          (ap (λ k. take k b.places) (length-map kept_header c.args.headers.now) ∙ c.in-ok-bodies.ensures.places)
-          (kept_header t.header) t.next c.in-ok-start.ensures.reads
+      reads = rest_read a hs f c.args.at (record { bodies = b.places; start = record { equation = t.index; values = v.values }; end = v.next }) b.next c.in_ok-bodies.ensures.reads
+          (ap (λ k. take k b.places) (length-map kept_header c.args.headers.now) ∙ c.in_ok-bodies.ensures.places)
+          (kept_header t.header) t.next c.in_ok-start.ensures.reads
           (take (length (take (t.header.count - 0) t.header.sorts)) v.values)
-          (c.in-ok-values.ensures.reads ∙ ap (λ k. one_by_one (read_value_of a) (take k t.header.sorts) f t.next) n) c.in-ok-values.ensures.zeros;
-      present = c.in-ok-start.ensures.present;
+          (c.in_ok-values.ensures.reads ∙ ap (λ k. one_by_one (read_value_of a) (take k t.header.sorts) f t.next) n) c.in_ok-values.ensures.zeros;
+      present = c.in_ok-start.ensures.present;
     }

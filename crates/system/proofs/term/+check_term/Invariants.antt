@@ -5,8 +5,8 @@ use Rattle.definitions.specs.ReadSystem.{read_term}
 use Rattle.system.specs.Steps.{placed, scoped}
 use Rattle.system.proofs.term.+check_term.Given as goal
 
-abbrev pub decreases-check-term : goal.decreases-check-term
-decreases-check-term g l = l.depth
+abbrev pub decreases-check_term : goal.decreases-check_term
+decreases-check_term g l = l.depth
 
 abbrev pub invariant-loop-k : goal.invariant-loop-k
 invariant-loop-k g l =

@@ -12,8 +12,8 @@ loop-k-init g c =
     let z : n - 0 ≡ n = omega arith in
     (refl, places_begin (term_places a n f c.args.at) ∙ ap (λ k. prefixed [] (term_places a k f c.args.at)) (sym z), refl)
 
-pub returns-in-err-next : goal.returns-in-err-next
-returns-in-err-next g c =
+pub returns-in_err-next : goal.returns-in_err-next
+returns-in_err-next g c =
     let a = g.G.Algebra.meaning c.args.alg.now in
     let f = c.args.bytes.now in
     let n = c.args.header.count in
@@ -21,8 +21,8 @@ returns-in-err-next g c =
     let few = c.args.header.few in
     let l : length c.args.header.sorts ≡ 15 = search rules in
     record {
-      places = ap (arguments_of n) c.from-residual.ensures ∙ sym (c.loop-k.invariant.1 ∙ place_none a f (take k c.loop-k.places) n k c.loop-k.next (omega arith) c.in-err-next.ensures.reads);
-      zeros = rw c.from-residual.ensures tt;
+      places = ap (arguments_of n) c.from_residual.ensures ∙ sym (c.loop-k.invariant.1 ∙ place_none a f (take k c.loop-k.places) n k c.loop-k.next (omega arith) c.in_err-next.ensures.reads);
+      zeros = rw c.from_residual.ensures tt;
       sorts = sym (length-take-le n c.args.header.sorts (omega arith));
     }
 
@@ -36,7 +36,7 @@ loop-k-preserved g c =
     let p = c.loop-k.next in
     let few = c.args.header.few in (
       length-set xs k p ∙ c.loop-k.invariant.0,
-      c.loop-k.invariant.1 ∙ place_next a f (take k xs) (take (k + 1) (set xs k p)) n k p c.in-ok-next.next (omega arith) c.in-ok-next.ensures.reads (rw add-one (take_set xs k p (omega (arith, c.loop-k.invariant.0)))),
+      c.loop-k.invariant.1 ∙ place_next a f (take k xs) (take (k + 1) (set xs k p)) n k p c.in_ok-next.next (omega arith) c.in_ok-next.ensures.reads (rw add-one (take_set xs k p (omega (arith, c.loop-k.invariant.0)))),
       zeros_next xs k 15 p c.loop-k.invariant.2 (omega arith),
     )
 

@@ -4,47 +4,47 @@ use Rattle.system.specs.Walks.{occurrences_end}
 use Rattle.system.proofs.Found.{clause_no_end, clause_end_at, end_next, end_none, end_end, end_found}
 use Rattle.system.proofs.walk.end_of_clause.Goals as goal
 
-pub returns-in-err-clause : goal.returns-in-err-clause
-returns-in-err-clause g c =
+pub returns-in_err-clause : goal.returns-in_err-clause
+returns-in_err-clause g c =
     let a = g.G.Algebra.meaning c.args.alg.now in
     let f = c.args.bytes.now in
     let hs = kept_headers c.args.outline.now in
-    let p = c.from-residual.ensures ∙ sym (clause_no_end a f hs c.args.at c.in-err-clause.ensures.places) in
-    record { places = p; found = end_found a f c.args.at hs c.from-residual.result p }
+    let p = c.from_residual.ensures ∙ sym (clause_no_end a f hs c.args.at c.in_err-clause.ensures.places) in
+    record { places = p; found = end_found a f c.args.at hs c.from_residual.result p }
 
 pub loop-k-init : goal.loop-k-init
 loop-k-init g c =
-    let n = c.in-ok-clause.clause.count in
+    let n = c.in_ok-clause.clause.count in
     let z : n ≡ n - 0 = omega arith in
-    ap (λ k. occurrences_end (g.G.Algebra.meaning c.args.alg.now) (kept_headers c.args.outline.now) k c.args.bytes.now c.in-ok-clause.clause.next) z
+    ap (λ k. occurrences_end (g.G.Algebra.meaning c.args.alg.now) (kept_headers c.args.outline.now) k c.args.bytes.now c.in_ok-clause.clause.next) z
 
-pub returns-in-err-next : goal.returns-in-err-next
-returns-in-err-next g c =
+pub returns-in_err-next : goal.returns-in_err-next
+returns-in_err-next g c =
     let a = g.G.Algebra.meaning c.args.alg.now in
     let f = c.args.bytes.now in
     let hs = kept_headers c.args.outline.now in
-    let k = c.in-ok-clause.clause in
-    let q = c.in-ok-clause.ensures.places in
+    let k = c.in_ok-clause.clause in
+    let q = c.in_ok-clause.ensures.places in
     let s = clause_end_at a f hs c.args.at q.1.0 k.next k.count q.1.1.1 q.1.1.0 in
-    let p = c.from-residual-in-err-next.ensures ∙ sym (s ∙ c.loop-k.invariant ∙ end_none a f hs k.count c.loop-k._k c.loop-k.next (omega arith) c.in-err-next.ensures.places) in
-    record { places = p; found = end_found a f c.args.at hs c.from-residual-in-err-next.result p }
+    let p = c.from_residual-in_err-next.ensures ∙ sym (s ∙ c.loop-k.invariant ∙ end_none a f hs k.count c.loop-k._k c.loop-k.next (omega arith) c.in_err-next.ensures.places) in
+    record { places = p; found = end_found a f c.args.at hs c.from_residual-in_err-next.result p }
 
 pub loop-k-preserved : goal.loop-k-preserved
 loop-k-preserved g c =
     let a = g.G.Algebra.meaning c.args.alg.now in
     let f = c.args.bytes.now in
     let hs = kept_headers c.args.outline.now in
-    let k = c.in-ok-clause.clause in
-    let x = c.in-ok-next.field-0 in
-    c.loop-k.invariant ∙ end_next a f hs k.count c.loop-k._k c.loop-k.next x.target (take x.count x.arguments) x.next (omega arith) c.in-ok-next.ensures.places.0
+    let k = c.in_ok-clause.clause in
+    let x = c.in_ok-next.field-0 in
+    c.loop-k.invariant ∙ end_next a f hs k.count c.loop-k._k c.loop-k.next x.target (take x.count x.arguments) x.next (omega arith) c.in_ok-next.ensures.places.0
 
 pub returns : goal.returns
 returns g c =
     let a = g.G.Algebra.meaning c.args.alg.now in
     let f = c.args.bytes.now in
     let hs = kept_headers c.args.outline.now in
-    let k = c.in-ok-clause.clause in
-    let q = c.in-ok-clause.ensures.places in
+    let k = c.in_ok-clause.clause in
+    let q = c.in_ok-clause.ensures.places in
     let s = clause_end_at a f hs c.args.at q.1.0 k.next k.count q.1.1.1 q.1.1.0 in
     let p = sym (s ∙ c.loop-k.invariant ∙ end_end a f hs k.count c.loop-k._k c.loop-k.next (omega arith)) in
     record { places = p; found = end_found a f c.args.at hs (Some c.loop-k.next) p }
