@@ -8,7 +8,7 @@ pub loop-k-init : goal.loop-k-init
 loop-k-init c = merged_none c.args.signs.now _ refl refl refl (λ r l. get_or-replicate 32 r 32 0 l)
 
 pub loop-k-preserved : goal.loop-k-preserved
-loop-k-preserved c = c.put-rank.ensures c.args.signs.now c.loop-k.k c.loop-k.invariant (omega arith) refl
+loop-k-preserved c = c.put_rank.ensures c.args.signs.now c.loop-k.k c.loop-k.invariant (omega arith) refl
 
 pub returns : goal.returns
 returns c =

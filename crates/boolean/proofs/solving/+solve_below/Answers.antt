@@ -13,17 +13,17 @@ loop-k-init t c =
 pub loop-k-preserved : goal.loop-k-preserved
 loop-k-preserved t c =
     below_next (variables_of c.args.file.now) c.args.blocks.now.ranks c.args.blocks.now.signs (c.args.k - 1) (assigned c.args.truths.now) (assigned c.begin.new.truths) c.begin.ensures
-    (assigned c.loop-k.truths) (assigned c.solve-below.new.truths) (assigned c.settle-block.new.truths) c.loop-k.invariant c.solve-below.ensures c.settle-block.result c.settle-block.ensures
+    (assigned c.loop-k.truths) (assigned c.solve_below.new.truths) (assigned c.settle_block.new.truths) c.loop-k.invariant c.solve_below.ensures c.settle_block.result c.settle_block.ensures
 
 pub loop-k-smaller : goal.loop-k-smaller
 loop-k-smaller t c =
     below_less (variables_of c.args.file.now) c.args.blocks.now.ranks c.args.blocks.now.signs (c.args.k - 1) (assigned c.args.truths.now) (assigned c.begin.new.truths) c.begin.ensures
-    (assigned c.loop-k.truths) (assigned c.solve-below.new.truths) (assigned c.settle-block.new.truths) c.loop-k.invariant c.solve-below.ensures c.if-not-settle-block.ensures
+    (assigned c.loop-k.truths) (assigned c.solve_below.new.truths) (assigned c.settle_block.new.truths) c.loop-k.invariant c.solve_below.ensures c.if-not-settle_block.ensures
 
-pub returns-then-not-settle-block : goal.returns-then-not-settle-block
-returns-then-not-settle-block t c =
+pub returns-then-not-settle_block : goal.returns-then-not-settle_block
+returns-then-not-settle_block t c =
     let vs = variables_of c.args.file.now in
     let n : suc (c.args.k - 1) ≡ c.args.k = omega arith in
     below_end vs c.args.blocks.now.ranks c.args.blocks.now.signs (c.args.k - 1) (assigned c.args.truths.now) (assigned c.begin.new.truths) c.begin.ensures
-    (assigned c.loop-k.truths) (assigned c.solve-below.new.truths) (assigned c.settle-block.new.truths) c.loop-k.invariant c.solve-below.ensures c.if-not-settle-block.ensures ∙
+    (assigned c.loop-k.truths) (assigned c.solve_below.new.truths) (assigned c.settle_block.new.truths) c.loop-k.invariant c.solve_below.ensures c.if-not-settle_block.ensures ∙
     ap (λ m. solve order.truths (variable_body vs) (blocks_below vs c.args.blocks.now.ranks c.args.blocks.now.signs m) (assigned c.args.truths.now)) n

@@ -8,8 +8,8 @@ use Rattle.boolean.specs.Ranked.{variables_of, variable_body, block_at, blocks_o
 use Rattle.boolean.proofs.Rounds.{Round}
 use Rattle.boolean.proofs.solving.+solve_below.Given as goal
 
-abbrev pub decreases-solve-below : goal.decreases-solve-below
-decreases-solve-below l = l.k
+abbrev pub decreases-solve_below : goal.decreases-solve_below
+decreases-solve_below l = l.k
 
 abbrev pub invariant-loop-k : goal.invariant-loop-k
 invariant-loop-k l =

@@ -15,7 +15,7 @@ loop-v-preserved c =
     let vs = variables_of f in
     let bs = c.args.blocks.now.ranks in
     let b = block_at vs bs c.args.k (get_or c.args.blocks.now.signs c.args.k Least) in
-    let t = not c.moves-to-start.result in
+    let t = not c.moves_to-start.result in
     let h = assigned c.args.truths.now in
     let v = c.loop-v.v in
     let ts = c.loop-v.truths in
@@ -38,6 +38,6 @@ returns c =
     let s = get_or c.args.blocks.now.signs c.args.k Least in
     let b = block_at vs bs c.args.k s in
     let h = assigned c.args.truths.now in
-    begun_end b (not c.moves-to-start.result) h c.loop-v.v c.loop-v.truths c.loop-v.invariant.1 c.loop-v.invariant.2
+    begun_end b (not c.moves_to-start.result) h c.loop-v.v c.loop-v.truths c.loop-v.invariant.1 c.loop-v.invariant.2
     (λ x p. let l : x < length vs = in_below vs bs c.args.k x p in omega (arith, c.requires.described.count)) ∙
-    ap (λ z. put b (λ _. z) h) (ap not c.moves-to-start.ensures ∙ start_edge s)
+    ap (λ z. put b (λ _. z) h) (ap not c.moves_to-start.ensures ∙ start_edge s)

@@ -28,6 +28,6 @@ loop-i-preserved c =
       c.visit-moved.array_long,
       subst (λ (z : ℕ). Swept s (variable_body vs) (λ j. in_block (at vs j) bs k) z (assigned c.args.truths.now) (assigned c.visit-moved.new.truths) c.joined-changed.result) e
           (swept_next s (variable_body vs) (λ j. in_block (at vs j) bs k) (assigned c.args.truths.now) (variables_mono vs) (n - i) (n - 1 - i) c.loop-i.truths c.visit-moved.new.truths
-          c.loop-i.changed c.visit-moved.result c.joined-changed.result c.moves-to-to.result (omega arith) c.moves-to-to.ensures c.joined-changed.ensures
+          c.loop-i.changed c.visit-moved.result c.joined-changed.result c.moves_to-to.result (omega arith) c.moves_to-to.ensures c.joined-changed.ensures
           (omega (arith, c.loop-i.invariant.0, c.args.variables.now.few)) c.loop-i.invariant.1 c.visit-moved.ensures),
     )

@@ -14,10 +14,10 @@ returns-then-truths-v c =
       | then-truths-v-via-else-truths-v+then-not-belongs w ↦ (refl, λ p _. absurd (true≢false (sym p ∙ sym told ∙ sym w.belongs.ensures ∙ w.if-not-belongs.true)))
     ]
 
-pub returns-in-default : goal.returns-in-default
-returns-in-default c =
+pub returns-in_default : goal.returns-in_default
+returns-in_default c =
     let f = c.args.file.now in
-    (refl, λ _ _. absurd (body_reads f (variables_of f) c.args.variables.now c.args.v c.requires.described c.requires.few (assigned c.args.truths.now) c.in-default.field-0.reason c.in-default.field-0.place c.in-default.ensures))
+    (refl, λ _ _. absurd (body_reads f (variables_of f) c.args.variables.now c.args.v c.requires.described c.requires.few (assigned c.args.truths.now) c.in_default.field-0.reason c.in_default.field-0.place c.in_default.ensures))
 
 pub returns-then-said-to : goal.returns-then-said-to
 returns-then-said-to c =

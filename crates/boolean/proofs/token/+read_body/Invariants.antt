@@ -5,8 +5,8 @@ use Rattle.boolean.specs.Steps.{assigned, mapped}
 use Rattle.boolean.proofs.Parts.{joined_parts}
 use Rattle.boolean.proofs.token.+read_body.Given as goal
 
-abbrev pub decreases-read-body : goal.decreases-read-body
-decreases-read-body l = l.depth
+abbrev pub decreases-read_body : goal.decreases-read_body
+decreases-read_body l = l.depth
 
 abbrev pub invariant-loop-i : goal.invariant-loop-i
 invariant-loop-i l =

@@ -1,5 +1,5 @@
 use Rattle.std.proofs.Common.{◌-◌}
 use Rattle.expansion.proofs.body.+write_quantified.Given as goal
 
-abbrev pub decreases-write-quantified : goal.decreases-write-quantified
-decreases-write-quantified g l = 3 - l.level
+abbrev pub decreases-write_quantified : goal.decreases-write_quantified
+decreases-write_quantified g l = 3 - l.level

@@ -1,4 +1,4 @@
 use Rattle.passes.proofs.terms.+write_term.Given as goal
 
-abbrev pub decreases-write-term : goal.decreases-write-term
-decreases-write-term g l = l.depth
+abbrev pub decreases-write_term : goal.decreases-write_term
+decreases-write_term g l = l.depth
