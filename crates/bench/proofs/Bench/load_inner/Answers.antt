@@ -7,20 +7,21 @@ use Rattle.bench.proofs.Bench.load_inner.Goals as goal
 
 pub returns-in_err-_outline : goal.returns-in_err-_outline
 returns-in_err-_outline g c =
-    declined_load (g.G.Algebra.meaning c.args.alg.now) c.args.file.now (holding c.args.self.now) c.from-residual.result _ c.in_err-_outline.ensures
-    (let t = err_from_is_err_and c.from-residual.result c.from-residual.ensures.1 in t.1 ∙ ap Err t.2)
+    declined_load (g.G.Algebra.meaning c.args.alg.now) c.args.file.now (holding c.args.self.now) c.from_residual.result _ c.in_err-_outline.ensures
+    (let t = err_from_is_err_and c.from_residual.result c.from_residual.ensures.1 in t.1 ∙ ap Err t.2)
 
 pub copy-requires : goal.copy-requires
 copy-requires g c =
     let d = c.in_ok-_outline.ensures in
     omega (arith, read_short (g.G.Algebra.meaning c.args.alg.now) c.args.file.now d.0 d.1.0)
 
-pub invariant-of-self : goal.invariant-of-self
-invariant-of-self g c =
-    let d = c.in_ok-_outline.ensures in (
-      read_short (g.G.Algebra.meaning c.args.alg.now) c.args.file.now d.0 d.1.0,
-      (tail_zero _ c.copy.new.out _ (seam_rest c.args.file.now _ _ c.copy.ensures) (zeros 8192), tt),
-    )
+pub invariant_of-self : goal.invariant_of-self
+invariant_of-self g c =
+    let d = c.in_ok-_outline.ensures in
+    record {
+      bound = read_short (g.G.Algebra.meaning c.args.alg.now) c.args.file.now d.0 d.1.0;
+      zeros = tail_zero _ c.copy.new.out _ (seam_rest c.args.file.now _ _ c.copy.ensures) (zeros 8192);
+    }
 
 pub returns : goal.returns
 returns g c =
