@@ -1,7 +1,7 @@
 -- The answers of the counting algebra, operation by operation.
-use Rattle.std.proofs.Common.{◌≡◌, ℕ, zero, suc, ◌+◌, ◌-◌, ◌*◌, ◌/◌, ◌%◌, ◌<◌, ◌≤◌, min, Bool, true, false, ltb, List, [], ◌∷◌, ◌++◌, map, length, get_or, Some, None, Option, sym, refl, ap, ◌∙◌, subst, ap₂, mod-eq_of_lt, add-one, arith}
+use Rattle.std.proofs.Common.{◌≡◌, ℕ, zero, suc, ◌+◌, ◌-◌, ◌/◌, ◌%◌, ◌<◌, ◌≤◌, min, Bool, true, false, ltb, List, [], ◌∷◌, length, get_or, Some, None, Option, sym, refl, ap, ◌∙◌, ap₂, mod-eq_of_lt, add-one, arith}
 use Rattle.definitions.specs.Lists.{at, bind, flat, map_from}
-use Rattle.definitions.specs.Alg.{Alg, Op, within, sized}
+use Rattle.definitions.specs.Alg.{Op, within, sized}
 use Rattle.definitions.specs.Algebras.{first, second, truth, counts, counting}
 use Rattle.algebra.specs.Runs.{runs}
 use native.Mathlib.Nat.{mod_self}

@@ -1,5 +1,5 @@
 -- A counting algebra as kept is lawful.
-use Rattle.std.specs.Prelude.{◌≡◌, ◌≤◌, length, take, nat_le}
+use Rattle.std.specs.Prelude.{◌≤◌, length, take, nat_le}
 use Rattle.std.proofs.Common.{arith}
 use Rattle.std.proofs.lemmas.Bool.{leb-true, and_parts}
 use Rattle.definitions.specs.Alg.{Lawful}

@@ -1,5 +1,5 @@
 -- What a table as kept means: the table of the grammar.
-use Rattle.std.specs.Prelude.{◌≡◌, ℕ, ◌+◌, ◌≤◌, Bool, true, false, ◌&&◌, ltb, leb, List, map, length, take, drop, ◌==◌, nat_le, nat_lt, slice_index}
+use Rattle.std.specs.Prelude.{ℕ, ◌+◌, Bool, ◌&&◌, ltb, leb, List, map, length, take, drop, ◌==◌, nat_le, nat_lt, slice_index}
 use Rattle.definitions.specs.Lists.{each, product}
 use Rattle.definitions.specs.Alg.{sized}
 use Rattle.definitions.specs.Tables.{TableOp, Table}

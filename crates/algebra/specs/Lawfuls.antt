@@ -1,9 +1,9 @@
 -- The algebra of some sizes and operations that keep to their ranges is lawful; so the counting and the level algebra are.
-use Rattle.std.specs.Prelude.{◌≡◌, ℕ, zero, suc, ◌+◌, ◌-◌, ◌*◌, ◌%◌, ◌<◌, ◌≤◌, min, Bool, true, false, ◌&&◌, List, [], ◌∷◌, ◌++◌, map, length, Some, None, Option, nat_le, nat_lt, slice_index, slice_index_or, refl}
+use Rattle.std.specs.Prelude.{◌≡◌, ℕ, zero, suc, ◌+◌, ◌*◌, ◌%◌, ◌<◌, ◌≤◌, Bool, true, false, ◌&&◌, List, [], ◌∷◌, length, Some, None, Option, nat_le, nat_lt, slice_index, slice_index_or, refl}
 use Rattle.std.proofs.Common.{sym, ◌∙◌, ap, ap₂, subst, mod-lt, arith}
 use Rattle.std.proofs.lemmas.Bool.{lt-ltb, ltb-true, false≢true}
 use Rattle.definitions.specs.Lists.{at, bind, flat, map_from}
-use Rattle.definitions.specs.Alg.{Alg, Op, within, sized, algebra, Lawful}
+use Rattle.definitions.specs.Alg.{Op, within, sized, algebra, Lawful}
 use Rattle.definitions.specs.Algebras.{first, second, truth, counts, counting, steps, level}
 use Rattle.definitions.specs.Fits.{Every}
 use Rattle.algebra.specs.Lists.{none_some, some_inj, and_left, and_right, at_some, at_over, at_lt, at_get_or, every_at, every_append, bind_inv}

@@ -1,17 +1,17 @@
 -- The table algebra: lawful where it is sound, and its answers.
-use Rattle.std.specs.Prelude.{◌≡◌, ℕ, zero, suc, ◌+◌, ◌-◌, ◌*◌, ◌<◌, ◌≤◌, Bool, true, false, ◌&&◌, ltb, leb, List, [], ◌∷◌, ◌++◌, map, length, take, Some, None, Option, ◌==◌, nat_le, nat_lt, slice_index, slice_index_or, refl}
-use Rattle.std.proofs.Common.{sym, ◌∙◌, ap, ap₂, subst, arith, length-take-le}
+use Rattle.std.specs.Prelude.{◌≡◌, ℕ, zero, suc, ◌+◌, ◌-◌, ◌<◌, ◌≤◌, Bool, true, false, ◌&&◌, ltb, leb, List, [], ◌∷◌, map, length, take, Some, None, Option, ◌==◌, nat_le, nat_lt, slice_index, slice_index_or, refl}
+use Rattle.std.proofs.Common.{sym, ◌∙◌, ap, arith, length-take-le}
 use Rattle.std.proofs.lemmas.List.{length-map}
-use Rattle.std.proofs.lemmas.Bool.{ltb-true, leb-true, eqb-true, and_parts, false≢true}
+use Rattle.std.proofs.lemmas.Bool.{ltb-true, leb-true, eqb-true, and_parts}
 use Rattle.definitions.specs.Lists.{at, bind, each, product}
-use Rattle.definitions.specs.Alg.{Alg, Op, within, sized, algebra, Lawful}
+use Rattle.definitions.specs.Alg.{Op, within, sized, Lawful}
 use Rattle.definitions.specs.Tables.{place_of, TableOp, Table, tabled, table}
 use Rattle.definitions.specs.Fits.{Every}
 use Rattle.algebra.specs.Limits.{size_fits, sizes_fit}
 use Rattle.algebra.specs.Kept.{args_of, values_of, kept_op, kept, roomy, op_sound, sizes_sound, table_sound}
 use Rattle.algebra.specs.declared.table.operation.Operation.{Operation}
 use Rattle.algebra.specs.Places.{place_below, value_at}
-use Rattle.algebra.specs.Lists.{none_some, some_inj, at_in, at_over, at_none, at_map, every_at, every_each, each_cons, front_in, front_out}
+use Rattle.algebra.specs.Lists.{none_some, some_inj, at_in, at_map, every_at, every_each, each_cons}
 use Rattle.algebra.specs.Lawfuls.{OpFits, algebra_lawful}
 
 pub size_fits_lem : (n : ℕ) → size_fits n ≡ true → (1 ≤ n) × (n ≤ 256)

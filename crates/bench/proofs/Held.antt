@@ -10,10 +10,9 @@ use Rattle.definitions.specs.Systems.{System}
 use Rattle.definitions.specs.Reading.{Reading, got, bad, ended, complete}
 use Rattle.definitions.specs.ReadSystem.{read_system, reading}
 use Rattle.definitions.specs.Written.{written}
-use Rattle.definitions.specs.Fits.{Every}
-use Rattle.definitions.specs.Settle.{Pass, Ran, wrote, refused, fitted, ran_on, run}
+use Rattle.definitions.specs.Settle.{Pass, Ran, wrote, refused, fitted, ran_on}
 use Rattle.definitions.specs.Rules.{fitted_in, applied_to, applied}
-use Rattle.definitions.specs.Calls.{Bytes, Delivered, Delivers, Stayed, Answers, run_on, Loads}
+use Rattle.definitions.specs.Calls.{Bytes, Delivers, Stayed, Answers, run_on, Loads}
 use Rattle.bench.specs.declared.Bench.{Bench}
 use Rattle.bench.specs.Holds.{holding}
 use Rattle.bench.proofs.Tails.{delivered_front}

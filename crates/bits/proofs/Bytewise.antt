@@ -1,5 +1,5 @@
 -- One bit of a byte, by a test over all bytes.
-use Rattle.std.proofs.Common.{◌≡◌, ℕ, zero, suc, ◌*◌, ◌/◌, ◌%◌, ◌^◌, ◌<◌, Bool, true, false, cond, T, eqb, ltb, sym, refl, subst, arith, eqb→eq, ltb→lt}
+use Rattle.std.proofs.Common.{◌≡◌, ℕ, zero, suc, ◌/◌, ◌%◌, ◌^◌, ◌<◌, Bool, true, false, cond, T, eqb, sym, refl, subst, arith, eqb→eq}
 use Rattle.bits.specs.Put.{with_bit}
 
 abbrev both : Bool → Bool → Bool

@@ -1,5 +1,5 @@
 -- Laws of the fields of bits.
-use Rattle.std.proofs.Common.{◌≡◌, ℕ, zero, suc, ◌+◌, ◌-◌, ◌*◌, ◌/◌, ◌%◌, ◌^◌, ◌<◌, ◌≤◌, List, length, get_or, sym, refl, ap, ◌∙◌, subst, add-zero, add-suc, mul_assoc, mul_comm, add-mul, suc-add, pow-suc, zero-add, zero-mul, add-one, one-add, arith, pow_mono, pow-add, shl_exact, shr-shr}
+use Rattle.std.proofs.Common.{◌≡◌, ℕ, zero, suc, ◌+◌, ◌-◌, ◌*◌, ◌/◌, ◌%◌, ◌^◌, ◌<◌, ◌≤◌, List, length, get_or, sym, refl, ap, ◌∙◌, subst, add-zero, mul_assoc, mul_comm, add-mul, suc-add, pow-suc, zero-add, zero-mul, one-add, arith, pow_mono, pow-add, shl_exact, shr-shr}
 use lib.Arith.{digits_lt}
 use lib.Pow.{mod-pow-add}
 use Rattle.std.proofs.lemmas.Bool.{le-leb, lt-leb}

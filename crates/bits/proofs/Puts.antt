@@ -1,9 +1,9 @@
 -- Bits put one after the other, and several at once inside a byte.
-use Rattle.std.proofs.Common.{◌≡◌, ℕ, zero, suc, ◌+◌, ◌-◌, ◌*◌, ◌/◌, ◌%◌, ◌^◌, ◌<◌, ◌≤◌, List, [], ◌∷◌, ◌++◌, length, get_or, set, replicate, sym, refl, ap, ◌∙◌, subst, ap₂, add-zero, add-suc, mod-lt, mul_assoc, mul_comm, add-mul, add_comm, suc-add, pow-suc, div-add-mod', zero-add, add-one, one-add, arith, length-set, get_or-set_same, set-set, pow_pos, pow-add, shr-shr, shr_lt}
+use Rattle.std.proofs.Common.{◌≡◌, ℕ, zero, suc, ◌+◌, ◌-◌, ◌*◌, ◌/◌, ◌%◌, ◌^◌, ◌<◌, ◌≤◌, List, [], ◌∷◌, ◌++◌, length, get_or, set, replicate, sym, refl, ap, ◌∙◌, subst, ap₂, add-zero, mod-lt, mul_assoc, mul_comm, add-mul, add_comm, suc-add, pow-suc, div-add-mod', zero-add, one-add, arith, length-set, get_or-set_same, set-set, pow_pos, pow-add, shr-shr, shr_lt}
 use native.Mathlib.Nat.{zero-div, zero-mod}
 use lib.Seq.{set-get_or, set_out}
 use lib.Arith.{digits_lt, digits_div, digits_mod}
-use lib.Pow.{split, mod-mod-pow, high, low, field as middle}
+use lib.Pow.{split, mod-mod-pow, field as middle}
 use Rattle.definitions.specs.Bits.{bits}
 use Rattle.bits.specs.Put.{with_bit, set_bit, overwritten, closed}
 

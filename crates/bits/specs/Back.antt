@@ -1,5 +1,5 @@
 -- What is written is read back, and fills the bytes.
-use Rattle.std.specs.Prelude.{◌≡◌, ℕ, ◌+◌, ◌*◌, ◌/◌, ◌^◌, ◌<◌, ◌≤◌, Bool, true, ◌⊎◌, List, [], ◌∷◌, ◌++◌, length, drop, nat_lt, slice_index}
+use Rattle.std.specs.Prelude.{◌≡◌, ℕ, ◌+◌, ◌*◌, ◌/◌, ◌^◌, ◌<◌, ◌≤◌, Bool, true, ◌⊎◌, List, ◌++◌, length, drop, nat_lt, slice_index}
 use Rattle.definitions.specs.Bits.{bit_at, field, Stands, bits, packed}
 use Rattle.definitions.specs.Lists.{each}
 use Rattle.bits.specs.Put.{overwritten, closed}

@@ -1,5 +1,5 @@
 -- What solve answers.
-use Rattle.std.proofs.Common.{◌≡◌, ℕ, zero, suc, ◌+◌, ◌-◌, ◌<◌, ◌≤◌, Bool, true, false, ◌||◌, eqb, ltb, leb, List, [], ◌∷◌, ◌++◌, map, length, get_or, take, drop, set, replicate, Some, None, Option, sym, refl, ap, ◌∙◌, subst, true≢false, add-one, arith, ltb-false, eqb-true, le-leb}
+use Rattle.std.proofs.Common.{◌≡◌, ℕ, zero, suc, ◌+◌, ◌<◌, ◌≤◌, Bool, true, false, ◌||◌, eqb, ltb, List, [], ◌∷◌, ◌++◌, map, length, get_or, take, drop, set, replicate, Some, None, sym, refl, ap, ◌∙◌, add-one, arith, ltb-false, eqb-true, le-leb}
 use mathlib.Core.Path.{fun_ext}
 use mathlib.Core.Bool.{false≢true}
 use lib.ListN.{length-map}
@@ -8,11 +8,11 @@ use borrow.Author.Tests.{lt-leb}
 use Rattle.faults.specs.declared.Reason.TheVariants.{TooFewTruths, BadLength}
 use Rattle.definitions.specs.Lists.{at, some, from, up_to, is_some}
 use Rattle.definitions.specs.Algebras.{truth}
-use Rattle.definitions.specs.Reading.{Reading, got, bad, ended, complete, file}
+use Rattle.definitions.specs.Reading.{Reading, got, bad, ended, complete}
 use Rattle.definitions.specs.Boolean.{Variable, rank_of, sign_of_rank, boolean_reading, read_boolean, solves, rank_block, used_ranks}
 use Rattle.definitions.specs.Order as order
 use Rattle.definitions.specs.Nested as nested
-use Rattle.definitions.specs.Calls.{solve, solve_variables, found, unsolved, Finds, Delivered}
+use Rattle.definitions.specs.Calls.{solve, solve_variables, found, unsolved, Finds}
 use Rattle.system.specs.declared.header.Sign.{Sign as KeptSign}
 use Rattle.system.specs.Files.{kept_sign}
 use Rattle.boolean.specs.declared.entries.Variables.{Variables}

@@ -1,16 +1,14 @@
 -- The rounds of solving, by what a sweep does.
-use Rattle.std.proofs.Common.{◌≡◌, ℕ, zero, suc, ◌+◌, ◌-◌, ◌<◌, ◌≤◌, Bool, true, false, not, List, [], ◌∷◌, length, get_or, sym, refl, ap, ◌∙◌, subst, true≢false, arith}
+use Rattle.std.proofs.Common.{◌≡◌, ℕ, suc, ◌<◌, Bool, true, false, not, List, ◌∷◌, length, get_or, sym, refl, ap, ◌∙◌, subst, arith}
 use mathlib.Core.Path.{fun_ext}
-use mathlib.Core.Bool.{false≢true}
 use Rattle.definitions.specs.Lists.{at, up_to}
 use Rattle.definitions.specs.Solution.{Block, edge, put}
 use Rattle.definitions.specs.Order.{Order, Le, dual, Below, Monotone, Enough}
 use Rattle.definitions.specs.Order as order
-use Rattle.definitions.specs.Fits.{Every}
 use Rattle.definitions.specs.Nested.{solve}
 use Rattle.definitions.specs.Boolean.{Variable}
 use Rattle.fixpoint.specs.Laws.{in_blocks}
-use Rattle.fixpoint.proofs.Rounds.{total, pick, cond_true, cond_false}
+use Rattle.fixpoint.proofs.Rounds.{total, cond_true, cond_false}
 use Rattle.fixpoint.proofs.Solves.{solve_outside, nor_left}
 use Rattle.system.specs.declared.header.Sign.{Sign as KeptSign}
 use Rattle.system.specs.declared.header.Sign.TheVariants.{Least, Greatest}

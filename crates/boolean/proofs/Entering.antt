@@ -1,6 +1,5 @@
 -- One more variable of a Boolean file.
-use Rattle.std.proofs.Common.{◌≡◌, ℕ, zero, suc, ◌+◌, ◌-◌, ◌<◌, ◌≤◌, Bool, true, false, not as flip, ◌&&◌, eqb, ◌≢◌, List, [], ◌∷◌, ◌++◌, length, get_or, set, replicate, Some, None, Option, sym, refl, ap, ◌∙◌, subst, true≢false, arith, length-append, get_or-set_other, get_or-set_same, eq-eqb, ne_eqb, eqb-true}
-use mathlib.Core.Bool.{false≢true}
+use Rattle.std.proofs.Common.{◌≡◌, ℕ, zero, suc, ◌+◌, ◌-◌, ◌<◌, Bool, true, false, not as flip, ◌&&◌, eqb, ◌≢◌, List, [], ◌∷◌, ◌++◌, length, get_or, set, replicate, Some, None, Option, sym, refl, ap, ◌∙◌, true≢false, arith, length-append, get_or-set_other, get_or-set_same, eq-eqb, ne_eqb, eqb-true}
 use native.Mathlib.Decide.{ℕ_discrete}
 use Rattle.faults.specs.declared.Reason.{Reason}
 use Rattle.faults.specs.declared.Reason.TheVariants.{RankOfBothSigns}
@@ -10,7 +9,6 @@ use Rattle.definitions.specs.Reading.{Step, next, stop, follow, take, must}
 use Rattle.definitions.specs.ReadSystem.{sign_of}
 use Rattle.definitions.specs.Boolean.{Form, Variable, same_sign, clashes, read_token, read_variables}
 use Rattle.system.specs.declared.header.Sign.{Sign as KeptSign}
-use Rattle.system.specs.declared.header.Sign.TheVariants.{Least, Greatest}
 use Rattle.system.specs.Files.{kept_sign}
 use Rattle.boolean.specs.declared.entries.Entries.{Entries}
 use Rattle.boolean.specs.Steps.{mapped}

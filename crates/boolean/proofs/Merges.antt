@@ -1,15 +1,14 @@
 -- Neighbouring ranks of one sign make one block.
-use Rattle.std.proofs.Common.{◌≡◌, ℕ, zero, suc, ◌+◌, ◌-◌, ◌*◌, ◌<◌, ◌≤◌, Bool, true, false, ◌||◌, eqb, ◌≢◌, ◌⊎◌, List, [], ◌∷◌, map, length, get_or, set, replicate, Some, None, Option, sym, refl, ap, ◌∙◌, subst, ap₂, inl, inr, true≢false, le_refl, add_comm, one-mul, add-one, arith, length-set, get_or-set_other, get_or-set_same, eq-eqb, ne_eqb, eqb-true}
-use mathlib.Core.Path.{fun_ext}
+use Rattle.std.proofs.Common.{◌≡◌, ℕ, zero, suc, ◌+◌, ◌-◌, ◌<◌, ◌≤◌, Bool, true, false, ◌||◌, eqb, ◌≢◌, ◌⊎◌, List, [], ◌∷◌, map, length, get_or, set, Some, None, Option, sym, refl, ap, ◌∙◌, subst, ap₂, inl, inr, le_refl, add_comm, one-mul, add-one, arith, length-set, get_or-set_other, get_or-set_same, eq-eqb, ne_eqb}
 use mathlib.Core.Bool.{false≢true}
 use native.Mathlib.Decide.{ℕ_discrete}
-use Rattle.definitions.specs.Lists.{at, some, keep, from, up_to, is_some}
+use Rattle.definitions.specs.Lists.{at, keep, from, up_to, is_some}
 use Rattle.definitions.specs.Solution.{Sign, least, greatest, Block, edge}
 use Rattle.definitions.specs.Order.{Order, Monotone, Enough}
 use Rattle.definitions.specs.Order as order
 use Rattle.definitions.specs.Fits.{Every}
 use Rattle.definitions.specs.Nested.{solve}
-use Rattle.definitions.specs.Boolean.{Variable, has_rank, rank_block, used_ranks, rank_of, sign_of_rank, same_sign}
+use Rattle.definitions.specs.Boolean.{Variable, has_rank, rank_block, rank_of, sign_of_rank, same_sign}
 use Rattle.fixpoint.specs.Laws.{join}
 use Rattle.fixpoint.proofs.Rounds.{after}
 use Rattle.fixpoint.proofs.Signs.{sign_more, op_mono}

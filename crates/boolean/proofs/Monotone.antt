@@ -1,11 +1,10 @@
 -- Boolean bodies are monotone, and the rounds of a rank suffice.
-use Rattle.std.proofs.Common.{◌≡◌, ℕ, zero, suc, ◌+◌, ◌<◌, ◌≤◌, Bool, true, false, eqb, List, [], ◌∷◌, map, length, Some, None, Option, sym, refl, ap, ◌∙◌, true≢false, le_refl, one-mul, arith}
+use Rattle.std.proofs.Common.{◌≡◌, ℕ, zero, suc, Bool, true, false, eqb, List, [], ◌∷◌, map, length, Some, None, Option, refl, ap, ◌∙◌, le_refl, one-mul}
 use mathlib.Core.Bool.{false≢true}
 use mathlib.Core.List.Memᴰ
 use mathlib.Core.List.{Memᴰ}
 use lib.ListN.{length-map}
-use Rattle.definitions.specs.Lists.{at, from, up_to}
-use Rattle.definitions.specs.Solution.{Block}
+use Rattle.definitions.specs.Lists.{at}
 use Rattle.definitions.specs.Order.{Below, Monotone, Enough}
 use Rattle.definitions.specs.Order as order
 use Rattle.definitions.specs.Boolean.{Form, known, all, any, var, Forms, nil, cons, said, all_said, any_said, Variable, body_at, rank_of, has_rank, rank_block}

@@ -4,7 +4,7 @@ use Rattle.faults.specs.declared.Reason.{Reason}
 use Rattle.faults.specs.declared.Reason.TheVariants.{NoSuchName, TooDeep, EndsInField}
 use Rattle.faults.specs.declared.SolveFault.{SolveFault}
 use Rattle.definitions.specs.Reading.{Step, next, stop, Reader, follow, take, take_for, below, repeated, give, fail}
-use Rattle.definitions.specs.Boolean.{Form, known, all, any, var, Forms, nil, cons, forms, said, all_said, any_said, read_token}
+use Rattle.definitions.specs.Boolean.{Form, known, all, any, var, forms, said, all_said, any_said, read_token}
 use Rattle.boolean.specs.Steps.{mapped}
 
 -- what `?` hands on

@@ -1,13 +1,12 @@
 -- The rounds of a block in place: between them the blocks inside are solved again, from whatever truths they have.
-use Rattle.std.proofs.Common.{◌≡◌, ℕ, zero, suc, Bool, true, false, ◌||◌, List, [], ◌∷◌, sym, refl, ap, ◌∙◌, subst, true≢false}
+use Rattle.std.proofs.Common.{◌≡◌, ℕ, zero, suc, Bool, true, false, ◌||◌, List, [], ◌∷◌, sym, refl, ap, ◌∙◌, subst}
 use mathlib.Core.Path.{fun_ext}
-use mathlib.Core.Bool.{false≢true}
 use Rattle.definitions.specs.Solution.{Sign, least, greatest, Block, edge, put}
 use Rattle.definitions.specs.Order.{Order, Le, toward, Below, Monotone, Enough}
 use Rattle.definitions.specs.Fits.{Every}
 use Rattle.definitions.specs.Nested.{solve, outer}
 use Rattle.fixpoint.specs.Laws.{in_blocks}
-use Rattle.fixpoint.proofs.Rounds.{pick, antisym, le_eq, step, after, after_outside, cond_false, cond_true}
+use Rattle.fixpoint.proofs.Rounds.{pick, antisym, le_eq, after, after_outside, cond_false, cond_true}
 use Rattle.fixpoint.proofs.Signs.{mono_toward, sign_least, op_mono, solve_mono}
 use Rattle.fixpoint.proofs.Solves.{solve_outside, solves, or_left}
 

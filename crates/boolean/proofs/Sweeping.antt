@@ -1,10 +1,10 @@
 -- One sweep over a block, and its start.
-use Rattle.std.proofs.Common.{◌≡◌, ℕ, zero, suc, ◌+◌, ◌-◌, ◌<◌, ◌≤◌, Bool, true, false, not, ◌||◌, eqb, ◌≢◌, List, [], ◌∷◌, length, get_or, set, Some, None, Option, sym, refl, ap, ◌∙◌, subst, true≢false, arith, get_or-set_other, get_or-set_same, ne_eqb, eqb-true}
+use Rattle.std.proofs.Common.{◌≡◌, ℕ, zero, suc, ◌+◌, ◌<◌, ◌≤◌, Bool, true, false, not, ◌||◌, eqb, List, [], ◌∷◌, length, get_or, set, Some, None, Option, sym, refl, ap, ◌∙◌, subst, true≢false, arith, get_or-set_other, get_or-set_same, ne_eqb, eqb-true}
 use mathlib.Core.Path.{fun_ext}
 use mathlib.Core.Bool.{beq, false≢true}
 use native.Mathlib.Decide.{ℕ_discrete, dec_lt}
 use Rattle.definitions.specs.Lists.{at, up_to}
-use Rattle.definitions.specs.Solution.{Sign, Block, edge, put}
+use Rattle.definitions.specs.Solution.{Block, put}
 use Rattle.definitions.specs.Order.{Order, Le, dual, Below, Monotone}
 use Rattle.definitions.specs.Order as order
 use Rattle.faults.specs.declared.Reason.{Reason}
@@ -19,7 +19,7 @@ use Rattle.system.specs.Files.{kept_sign}
 use Rattle.boolean.specs.declared.entries.Variables.{Variables}
 use Rattle.boolean.specs.Steps.{assigned, mapped}
 use Rattle.boolean.specs.Files.{Described}
-use Rattle.boolean.specs.Ranked.{variable_body, in_block, block_at, blocks_below, moving, moves_to, Visited, Swept, members}
+use Rattle.boolean.specs.Ranked.{variable_body, in_block, blocks_below, moving, moves_to, Visited, Swept, members}
 use Rattle.boolean.proofs.Weights.{from_mem, lighter}
 use Rattle.boolean.proofs.Merges.{in_below}
 

@@ -1,11 +1,10 @@
 -- The number of variables of a block that have not moved.
-use Rattle.std.proofs.Common.{◌≡◌, ℕ, zero, suc, ◌+◌, ◌<◌, ◌≤◌, Bool, true, false, List, [], ◌∷◌, sym, refl, ap, ◌∙◌, true≢false, arith}
-use mathlib.Core.Bool.{false≢true}
+use Rattle.std.proofs.Common.{◌≡◌, ℕ, zero, suc, ◌+◌, ◌<◌, ◌≤◌, Bool, true, false, List, [], ◌∷◌, sym, refl, ap, ◌∙◌, arith}
 use mathlib.Core.List.{Memᴰ}
 use native.Mathlib.Decide.{dec_lt}
-use Rattle.definitions.specs.Lists.{keep, from, up_to}
-use Rattle.definitions.specs.Order.{Order, Le, dual, Below}
-use Rattle.fixpoint.proofs.Rounds.{total, total_mono, total_same}
+use Rattle.definitions.specs.Lists.{keep, from}
+use Rattle.definitions.specs.Order.{Order, dual, Below}
+use Rattle.fixpoint.proofs.Rounds.{total, total_same}
 
 keep_mem : {I : Type 0} (p : I → Bool) {x : I} {l : List I} → p x ≡ true → Memᴰ x l → Memᴰ x (keep p l)
 keep_mem p {x} h (Memᴰ.head {x = y} {xs} e) = rw (ap p (sym e) ∙ h, keep) (Memᴰ.head e)

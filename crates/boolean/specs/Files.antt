@@ -1,9 +1,9 @@
 -- What the answers on Boolean files say.
-use Rattle.std.specs.Prelude.{◌≡◌, ℕ, suc, ◌+◌, ◌<◌, Bool, true, false, not as flip, List, [], ◌∷◌, ◌++◌, length, Some, None, Ok, Err, Option, Result, nat_eq, slice_index, slice_index_or}
+use Rattle.std.specs.Prelude.{◌≡◌, ℕ, suc, ◌+◌, ◌<◌, Bool, false, not as flip, List, [], ◌∷◌, ◌++◌, length, Some, None, Ok, Err, Option, Result, nat_eq, slice_index, slice_index_or}
 use Rattle.faults.specs.declared.SolveFault.{SolveFault}
 use Rattle.definitions.specs.Lists.{at, some, is_some}
 use Rattle.definitions.specs.Solution.{Sign}
-use Rattle.definitions.specs.Reading.{Step, next, stop, Reading, got, bad}
+use Rattle.definitions.specs.Reading.{next, stop, got, bad}
 use Rattle.definitions.specs.Boolean.{Variable, same_sign, read_token, read_variables, boolean_reading}
 use Rattle.system.specs.declared.header.Sign.{Sign as KeptSign}
 use Rattle.system.specs.Files.{kept_sign}

@@ -1,7 +1,7 @@
 -- Blocks of neighbouring ranks of one sign, and one sweep over a block.
-use Rattle.std.specs.Prelude.{◌≡◌, ℕ, zero, suc, ◌+◌, ◌-◌, ◌<◌, ◌≤◌, Bool, true, false, ◌||◌, ◌⊎◌, List, [], ◌∷◌, map, length, Some, None, Option, ◌==◌, ◌≢◌, nat_eq, slice_index, slice_index_or, slice_set}
+use Rattle.std.specs.Prelude.{◌≡◌, ℕ, zero, suc, ◌+◌, ◌-◌, ◌<◌, ◌≤◌, Bool, true, false, ◌⊎◌, List, [], ◌∷◌, map, length, Some, None, Option, ◌==◌, ◌≢◌, nat_eq, slice_index, slice_index_or, slice_set}
 use Rattle.definitions.specs.Lists.{at, some, keep, from, is_some, up_to}
-use Rattle.definitions.specs.Solution.{Sign, least, greatest, Block}
+use Rattle.definitions.specs.Solution.{Block}
 use Rattle.definitions.specs.Order.{Order, Le, toward, dual, Below}
 use Rattle.definitions.specs.Order as order
 use Rattle.definitions.specs.Nested.{solve}

@@ -1,14 +1,13 @@
 -- Boolean files: expanding a system, reading, and solving.
-use Rattle.std.specs.Prelude.{ℕ, zero, suc, ◌+◌, ◌-◌, Bool, true, false, not as flip, ◌&&◌, ◌||◌, List, [], ◌∷◌, ◌++◌, map, length, Some, None, Option, ◌==◌, nat_eq, nat_le, slice_index_or}
-use Rattle.std.specs.Bool.{beq}
+use Rattle.std.specs.Prelude.{ℕ, zero, suc, ◌-◌, Bool, true, false, not as flip, ◌&&◌, List, [], ◌∷◌, ◌++◌, map, length, Some, None, Option, ◌==◌, nat_eq, nat_le, slice_index_or}
 use Rattle.faults.specs.declared.Reason.TheVariants.{BenchEmpty, TooDeep, NoSuchName, TooManyInstances, BooleanTooLong, RankOfBothSigns}
 use Rattle.faults.specs.declared.ExpandFault.{ExpandFault}
 use Rattle.faults.specs.declared.ExpandFault.TheVariants.{Unread, Refused}
-use Rattle.definitions.specs.Lists.{at, or_else, flat, each, some, keep, up_to, same, bind, is_some}
+use Rattle.definitions.specs.Lists.{at, flat, some, keep, up_to, same}
 use Rattle.definitions.specs.Alg.{Alg}
 use Rattle.definitions.specs.Algebras.{truth}
 use Rattle.definitions.specs.Bits.{bits, packed}
-use Rattle.definitions.specs.Systems.{Quantifier, exists, forall, Quantified, Occurrence, Clause, Equation, System}
+use Rattle.definitions.specs.Systems.{Quantifier, exists, forall, Quantified, Clause, Equation, System}
 use Rattle.definitions.specs.Values.{holds}
 use Rattle.definitions.specs.Solution.{Sign, least, greatest, Block, solved}
 use Rattle.definitions.specs.Truth.{Instance, size_of, meant}

@@ -1,5 +1,5 @@
 -- The pass C: what is known of each equation's parameters, and the known ones replaced by value terms and removed.
-use Rattle.std.specs.Prelude.{ℕ, zero, suc, ◌+◌, Bool, true, false, not as flip, ◌&&◌, List, [], ◌∷◌, ◌++◌, map, length, Some, None, Option, ◌==◌, slice_index, slice_index_or}
+use Rattle.std.specs.Prelude.{ℕ, zero, suc, Bool, true, false, not as flip, ◌&&◌, List, [], ◌∷◌, ◌++◌, map, length, Some, None, Option, ◌==◌, slice_index, slice_index_or}
 use Rattle.definitions.specs.Lists.{at, bind, flat, each, sum, times, is_some, map_from}
 use Rattle.definitions.specs.Alg.{Alg}
 use Rattle.definitions.specs.Systems.{Kind, parameter, value, Occurrence, Clause, Equation, System}

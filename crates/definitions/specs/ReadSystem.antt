@@ -1,5 +1,5 @@
 -- Reading a system file.
-use Rattle.std.specs.Prelude.{ℕ, zero, suc, ◌+◌, Bool, true, false, cond, not as flip, List, [], ◌∷◌, map, length, Some, None, Option, ◌==◌, nat_lt, slice_index_or}
+use Rattle.std.specs.Prelude.{ℕ, zero, suc, List, [], ◌∷◌, map, Some, None, Option, ◌==◌, nat_lt, slice_index_or}
 use Rattle.faults.specs.declared.Reason.TheVariants.{NoEquations, TooDeep, NoSuchSort, NoSuchName, ValueTooLarge, WrongSort}
 use Rattle.definitions.specs.Lists.{at, up_to, bind}
 use Rattle.definitions.specs.Alg.{Alg}

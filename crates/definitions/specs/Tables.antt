@@ -1,7 +1,7 @@
 -- The table algebra, and the table file: reading and writing.
-use Rattle.std.specs.Prelude.{ℕ, zero, suc, ◌+◌, ◌-◌, ◌*◌, Bool, true, false, List, [], ◌∷◌, ◌++◌, map, length, ◌==◌, slice_index}
+use Rattle.std.specs.Prelude.{ℕ, suc, ◌+◌, ◌-◌, ◌*◌, List, [], ◌∷◌, ◌++◌, map, length, ◌==◌, slice_index}
 use Rattle.faults.specs.declared.Reason.TheVariants.{NoSuchSort, ValueTooLarge, TruthSortSize}
-use Rattle.definitions.specs.Lists.{at, bind, flat, product}
+use Rattle.definitions.specs.Lists.{flat, product}
 use Rattle.definitions.specs.Bits.{bits, packed}
 use Rattle.definitions.specs.Alg.{Alg, Op, sized, algebra}
 use Rattle.definitions.specs.Reading.{Reading, Reader, ◌>>=◌, ◌>>◌, give, here, must, take, take_for, below, repeated, file}

@@ -1,5 +1,5 @@
 -- One reader after another, with their values forgotten.
-use Rattle.std.proofs.Common.{◌≡◌, ℕ, zero, suc, ◌+◌, ◌-◌, ◌<◌, ◌≤◌, List, [], ◌∷◌, map, length, get_or, take as front, Some, None, Option, sym, refl, ap, ◌∙◌, add-one, arith}
+use Rattle.std.proofs.Common.{◌≡◌, ℕ, zero, suc, ◌+◌, ◌<◌, ◌≤◌, List, [], ◌∷◌, map, length, get_or, take as front, Some, None, refl, ap, ◌∙◌, add-one, arith}
 use Rattle.system.specs.declared.header.Quantified.{Quantified as Kept}
 use Rattle.system.specs.Files.{kept_quantified}
 use Rattle.faults.specs.declared.Reason.{Reason}

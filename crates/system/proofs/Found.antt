@@ -1,17 +1,17 @@
 -- Bodies, clauses and occurrences that are read are found.
-use Rattle.std.proofs.Common.{◌≡◌, ℕ, zero, suc, ◌+◌, ◌-◌, ◌<◌, ◌≤◌, List, [], ◌∷◌, ◌++◌, length, get_or, take as front, Some, None, Option, sym, refl, ap, ◌∙◌, add-one, arith}
+use Rattle.std.proofs.Common.{◌≡◌, ℕ, zero, suc, ◌+◌, ◌-◌, ◌<◌, ◌≤◌, List, [], ◌∷◌, ◌++◌, length, get_or, take as front, Some, None, Option, sym, refl, ap, ◌∙◌, arith}
 use Rattle.faults.specs.declared.Reason.TheVariants.{NoSuchName}
 use Rattle.definitions.specs.Lists.{at, bind}
 use Rattle.definitions.specs.Alg.{Alg}
 use Rattle.definitions.specs.Systems.{Term, Occurrence, Clause, Equation}
-use Rattle.definitions.specs.Reading.{Step, next, stop, Reader, follow, take, given, repeated, one_by_one}
+use Rattle.definitions.specs.Reading.{next, Reader, follow, take, given, repeated, one_by_one}
 use Rattle.definitions.specs.ReadSystem.{Scope, Sorted, Header, scope, greatest_depth, read_term, read_of, read_target, read_occurrence, read_clause, read_body}
 use Rattle.terms.specs.Shapes.{field_at, shape, what, behind, standing}
 use Rattle.terms.proofs.Laws.{followed, term_stands, field_is}
 use Rattle.system.specs.declared.places.BodyAt.{BodyAt}
 use Rattle.system.specs.declared.places.ClauseAt.{ClauseAt}
 use Rattle.system.specs.declared.places.OccurrenceAt.{OccurrenceAt}
-use Rattle.system.specs.Walks.{term_end, counted, term_places, occurrence_places, occurrences_end, clause_end, BodyPlaces, ClausePlaces, OccurrencePlaces, Found, BodyOf, ClauseOf, OccurrenceOf, BodyFound, ClauseFound, OccurrenceFound, EndFound}
+use Rattle.system.specs.Walks.{term_end, counted, term_places, occurrence_places, occurrences_end, clause_end, BodyPlaces, ClausePlaces, OccurrencePlaces, BodyFound, ClauseFound, OccurrenceFound, EndFound}
 use Rattle.system.proofs.Fills.{snoc, nil}
 use Rattle.system.proofs.Lists.{at_small}
 use Rattle.system.proofs.Outlines.{get_d_front}

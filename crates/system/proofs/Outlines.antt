@@ -1,12 +1,11 @@
 -- Whole system files as they are read.
-use Rattle.std.proofs.Common.{◌≡◌, ℕ, zero, suc, ◌<◌, ◌≤◌, Bool, true, false, ◌||◌, eqb, ltb, List, [], ◌∷◌, map, length, get_or, take as front, Some, None, sym, refl, ap, ◌∙◌, subst, arith, length-take-le}
+use Rattle.std.proofs.Common.{◌≡◌, ℕ, zero, suc, ◌<◌, ◌≤◌, Bool, true, false, ◌||◌, eqb, ltb, List, [], ◌∷◌, map, length, get_or, take as front, sym, refl, ap, ◌∙◌, arith, length-take-le}
 use Rattle.std.proofs.lemmas.Bool.{lt-ltb, ltb-false}
 use Rattle.faults.specs.declared.Reason.{Reason}
-use Rattle.faults.specs.declared.Reason.TheVariants.{BadLength, EndsInField, NoEquations}
-use Rattle.definitions.specs.Lists.{at}
+use Rattle.faults.specs.declared.Reason.TheVariants.{BadLength, NoEquations}
 use Rattle.definitions.specs.Alg.{Alg}
 use Rattle.definitions.specs.Systems.{Term, Clause, Equation, System}
-use Rattle.definitions.specs.Reading.{Step, next, stop, Reader, follow, take, repeated, one_by_one, must, ending, ended, complete, Reading, got, bad}
+use Rattle.definitions.specs.Reading.{Step, next, stop, Reader, follow, take, repeated, one_by_one, must, ended, complete, got, bad}
 use Rattle.definitions.specs.ReadSystem.{Header, scope, read_of, read_clause, read_body, read_target, read_value_of, read_header, read_system, reading}
 use Rattle.definitions.specs.Fits.{header_of}
 use Rattle.system.specs.Steps.{placed}

@@ -1,5 +1,5 @@
 -- Equal records.
-use Rattle.std.proofs.Common.{◌≡◌, Bool, true, false, Decides, ap}
+use Rattle.std.proofs.Common.{◌≡◌, Bool, Decides, ap}
 use Rattle.system.specs.declared.instance.Instance.{Instance}
 
 pub by_values : (a b : Instance) (r : Bool) → a.equation ≡ b.equation → Decides r (a.values ≡ b.values) → Decides r (a ≡ b)

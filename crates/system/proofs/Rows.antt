@@ -1,5 +1,5 @@
 -- Readers in a row, with their values forgotten.
-use Rattle.std.proofs.Common.{◌≡◌, ℕ, zero, suc, ◌+◌, ◌-◌, ◌<◌, List, [], ◌∷◌, IsErrAnd, Ok, Err, Option, Result, sym, refl, ap, ◌∙◌, sub-one, arith}
+use Rattle.std.proofs.Common.{◌≡◌, ℕ, zero, suc, ◌+◌, ◌-◌, ◌<◌, List, ◌∷◌, IsErrAnd, Ok, Err, Option, Result, sym, refl, ap, ◌∙◌, sub-one, arith}
 use Rattle.faults.specs.declared.Reason.{Reason}
 use Rattle.definitions.specs.Lists.{from}
 use Rattle.definitions.specs.Alg.{Alg}

@@ -1,5 +1,5 @@
 -- Readers over lists, with their values forgotten.
-use Rattle.std.proofs.Common.{◌≡◌, ℕ, zero, suc, ◌+◌, ◌-◌, ◌<◌, ◌≤◌, List, [], ◌∷◌, ◌++◌, map, length, get_or, take as front, drop, set, Some, None, sym, refl, ap, ◌∙◌, add-one, arith, drop-cons}
+use Rattle.std.proofs.Common.{◌≡◌, ℕ, zero, suc, ◌+◌, ◌<◌, ◌≤◌, List, [], ◌∷◌, ◌++◌, map, length, get_or, take as front, drop, set, Some, None, sym, refl, ap, ◌∙◌, add-one, arith, drop-cons}
 use Rattle.faults.specs.declared.Reason.{Reason}
 use Rattle.definitions.specs.Reading.{Step, next, stop, Reader, follow, one_by_one}
 use Rattle.definitions.specs.Lists.{at}

@@ -1,5 +1,5 @@
 -- What the readers' answers say as steps.
-use Rattle.std.specs.Prelude.{ℕ, List, map, Some, None, Ok, Err, Option, Result}
+use Rattle.std.specs.Prelude.{ℕ, List, map, Ok, Err, Option, Result}
 use Rattle.definitions.specs.Lists.{up_to}
 use Rattle.definitions.specs.Alg.{Alg}
 use Rattle.definitions.specs.Systems.{operation}

@@ -1,10 +1,10 @@
 -- What the answers on whole files say.
-use Rattle.std.specs.Prelude.{◌≡◌, ℕ, ◌≤◌, List, map, length, take as front, Some, Ok, Err, Result, slice_index}
+use Rattle.std.specs.Prelude.{◌≡◌, ℕ, List, map, length, take as front, Some, Ok, Err, Result, slice_index}
 use Rattle.faults.specs.declared.ReadFault.{ReadFault}
 use Rattle.definitions.specs.Lists.{at}
 use Rattle.definitions.specs.Alg.{Alg}
 use Rattle.definitions.specs.Systems.{Equation, System}
-use Rattle.definitions.specs.Reading.{Step, next, stop, Reader, ◌>>=◌, give, one_by_one, Reading, got, bad}
+use Rattle.definitions.specs.Reading.{Step, next, stop, Reader, ◌>>=◌, give, one_by_one, got, bad}
 use Rattle.definitions.specs.ReadSystem.{Header, read_body, read_target, read_value_of, read_system, reading}
 use Rattle.definitions.specs.Fits.{header_of}
 use Rattle.system.specs.declared.rest.Rest.{Rest}

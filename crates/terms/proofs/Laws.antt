@@ -1,5 +1,5 @@
 -- Where the reading of a system reads a term, that term stands.
-use Rattle.std.proofs.Common.{◌≡◌, ℕ, zero, suc, ◌≤◌, Bool, true, false, eqb, ltb, List, [], ◌∷◌, map, length, Some, None, Option, sym, refl, ap, ◌∙◌, arith}
+use Rattle.std.proofs.Common.{◌≡◌, ℕ, zero, suc, ◌≤◌, Bool, true, false, eqb, ltb, List, [], ◌∷◌, map, length, Some, None, Option, refl, ap, ◌∙◌, arith}
 use Rattle.faults.specs.declared.Reason.{Reason}
 use Rattle.faults.specs.declared.Reason.TheVariants.{TooDeep, NoSuchSort, NoSuchName, ValueTooLarge, WrongSort}
 use Rattle.definitions.specs.Lists.{at, bind, from, up_to}

@@ -1,8 +1,8 @@
 -- Terms in a row, by one step.
-use Rattle.std.proofs.Common.{◌≡◌, ℕ, zero, suc, ◌+◌, ◌-◌, List, [], ◌∷◌, Some, None, Option, sym, refl, ap, ◌∙◌, sub-one, arith}
+use Rattle.std.proofs.Common.{◌≡◌, ℕ, zero, suc, ◌+◌, ◌-◌, List, Some, None, Option, sym, refl, ap, ◌∙◌, sub-one, arith}
 use Rattle.definitions.specs.Lists.{bind}
 use Rattle.definitions.specs.Alg.{Alg}
-use Rattle.definitions.specs.Systems.{Kind, Term, Terms, node, none, more}
+use Rattle.definitions.specs.Systems.{Kind, Term, Terms, node, more}
 use Rattle.terms.specs.Shapes.{Shape, opening, row, shape, what, behind}
 
 behind_more : (t : Term) (o : Option (Terms × ℕ)) → behind (bind o (λ xs. Some (more t xs.0, xs.1))) ≡ behind o

@@ -2,11 +2,11 @@
 use Rattle.faults.specs.declared.Reason.TheVariants.{NoSuchName, RankOfBothSigns}
 use Rattle.std.proofs.Common.{◌≡◌, ℕ, suc, ◌+◌, ◌-◌, ◌<◌, ◌≤◌, Bool, true, false, not as flip, ◌&&◌, eqb, List, [], ◌∷◌, ◌++◌, map, length, Some, None, sym, refl, ap, ◌∙◌, subst, ap₂, subst₂, append_assoc, append-nil, add-zero, zero-add, arith}
 use Rattle.std.proofs.lemmas.Bool.{lt-ltb, eqb-true}
-use Rattle.definitions.specs.Lists.{flat, some}
+use Rattle.definitions.specs.Lists.{flat}
 use Rattle.definitions.specs.Bits.{bits, packed}
 use Rattle.definitions.specs.Algebras.{truth}
 use Rattle.definitions.specs.Solution.{Sign, least, greatest}
-use Rattle.definitions.specs.Reading.{next, Reader, take, follow, give, below, repeated, ◌>>=◌, ◌>>◌}
+use Rattle.definitions.specs.Reading.{next, Reader, take, follow, give, below, repeated, ◌>>=◌}
 use Rattle.definitions.specs.ReadSystem.{sign_of}
 use Rattle.definitions.specs.Written.{sign_bits}
 use Rattle.definitions.specs.Boolean.{Form, known, all, any, var, Forms, nil, cons, forms, count, Variable, form_bits, forms_bits, variable_bits, read_token, same_sign, clashes, read_variables, read_boolean}

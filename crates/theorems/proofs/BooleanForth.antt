@@ -6,7 +6,7 @@ use Rattle.std.proofs.lemmas.Bool.{eqb-true, eq-eqb}
 use Rattle.definitions.specs.Lists.{at, flat, some}
 use Rattle.definitions.specs.Bits.{field, bits, Stands}
 use Rattle.definitions.specs.Solution.{Sign, least, greatest}
-use Rattle.definitions.specs.Reading.{next, stop, take, take_for, give, fail, below, repeated, ◌>>=◌, ◌>>◌}
+use Rattle.definitions.specs.Reading.{next, stop, take, take_for, give, fail, below, repeated, ◌>>=◌}
 use Rattle.definitions.specs.ReadSystem.{sign_of}
 use Rattle.definitions.specs.Written.{sign_bits}
 use Rattle.definitions.specs.Boolean.{Form, known, all, any, var, forms, count, Variable, form_bits, forms_bits, variable_bits, boolean_written, read_token, same_sign, clashes, read_variables, read_boolean, rank_of, sign_of_rank}

@@ -7,7 +7,6 @@ use lib.ListN.{length-map}
 use Rattle.std.proofs.lemmas.Bool.{leb-true, leb-false}
 use Rattle.definitions.specs.Alg.{Alg, Lawful}
 use Rattle.definitions.specs.Systems.{System}
-use Rattle.definitions.specs.Truth.{verdict}
 use Rattle.definitions.specs.Lists.{at, up_to}
 use Rattle.definitions.specs.Algebras.{truth}
 use Rattle.definitions.specs.Reading.{got}

@@ -9,7 +9,7 @@ use Rattle.definitions.specs.Systems.{Equation, System}
 use Rattle.definitions.specs.Order.{Below, Monotone}
 use Rattle.definitions.specs.Order as order
 use Rattle.fixpoint.specs.Laws.{Agree, Matched}
-use Rattle.definitions.specs.Truth.{Instance, sizes_of, block_of, body, truths, verdict}
+use Rattle.definitions.specs.Truth.{Instance, sizes_of, block_of, body, truths}
 use Rattle.definitions.specs.Boolean.{vars, form, number_in, Variable, sign_at, variable_of, rank_of, sign_of_rank, has_rank, rank_block, body_at, used_ranks}
 use Rattle.definitions.specs.Fits.{Every, SystemFits}
 use Rattle.definitions.specs.Reach.{ReachedInstance}

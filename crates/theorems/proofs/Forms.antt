@@ -1,6 +1,6 @@
 -- What Boolean bodies say: what the instance's body says, monotone, and by their variables alone.
 use Rattle.fixpoint.proofs.Truths.{implied}
-use Rattle.std.proofs.Common.{◌≡◌, ℕ, ◌+◌, Bool, true, false, List, [], ◌∷◌, ◌++◌, map, Some, None, Option, refl, ap, ◌∙◌, ap₂}
+use Rattle.std.proofs.Common.{◌≡◌, ℕ, Bool, true, false, List, [], ◌∷◌, ◌++◌, map, Some, None, Option, refl, ap, ◌∙◌, ap₂}
 use mathlib.Core.Path.{fun_ext}
 use mathlib.Core.Bool.{false≢true}
 use Rattle.definitions.specs.Lists.{at, each, some, keep, up_to}

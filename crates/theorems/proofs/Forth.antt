@@ -1,6 +1,6 @@
 -- A term that is read fits, and its bits stand where it was read.
 use Rattle.faults.specs.declared.Reason.TheVariants.{NoSuchSort, NoSuchName, ValueTooLarge}
-use Rattle.std.proofs.Common.{◌≡◌, ℕ, zero, suc, ◌+◌, ◌-◌, ◌*◌, ◌<◌, ◌≤◌, List, [], ◌∷◌, ◌++◌, map, length, Some, None, Option, sym, refl, ap, ◌∙◌, subst, subst₂, append-nil, add-zero, arith, length-append}
+use Rattle.std.proofs.Common.{◌≡◌, ℕ, zero, suc, ◌+◌, ◌*◌, ◌<◌, ◌≤◌, List, [], ◌∷◌, ◌++◌, map, length, Some, None, Option, sym, refl, ap, ◌∙◌, subst, subst₂, append-nil, add-zero, arith, length-append}
 use Rattle.definitions.specs.Lists.{at, flat, up_to, from}
 use Rattle.definitions.specs.Bits.{bits, Stands}
 use Rattle.definitions.specs.Alg.{Alg}

@@ -9,7 +9,7 @@ use Rattle.definitions.specs.Systems.{Occurrence, Clause, Equation, System}
 use Rattle.definitions.specs.ReadSystem.{Header, scope}
 use Rattle.definitions.specs.Fits.{Every, header_of, HeaderFits, OccurrenceFits, ClauseFits, BodyFits, SystemFits}
 use Rattle.definitions.specs.Truth.{Instance, sizes_of, meant, clause_holds, inside_holds, equation_holds, body, block_of, truths, verdict}
-use Rattle.definitions.specs.Passes.{occurrences, calls, chained, reachable, renamed, pass_u}
+use Rattle.definitions.specs.Passes.{calls, chained, reachable, renamed, pass_u}
 use Rattle.fixpoint.specs.Laws.{Agree, Matched}
 use Rattle.theorems.proofs.Listing.{every_map, each_map, some_map, some_same, none_some, every_mapped, every_at, every_two, at_map_some, at_mapped, strike_short, every_unmapped, from_long, at_lt}
 use Rattle.theorems.proofs.Monotone.{equals, each_is, some_is, under_is, clause_is, inside_is}

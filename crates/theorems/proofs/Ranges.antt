@@ -5,7 +5,7 @@ use Rattle.std.proofs.lemmas.Bool.{ltb-true, lt-ltb, and_parts, and_from, cases_
 use Rattle.definitions.specs.Lists.{at, bind, whole, or_else}
 use Rattle.definitions.specs.Alg.{Alg, Lawful, within}
 use Rattle.definitions.specs.Algebras.{first, second, truth}
-use Rattle.definitions.specs.Systems.{value, Term, Terms, folds}
+use Rattle.definitions.specs.Systems.{Term, Terms, folds}
 use Rattle.definitions.specs.ReadSystem.{Scope}
 use Rattle.definitions.specs.Values.{known, kind_known, value_of, values_of, both, either, is_true, is_false}
 use Rattle.definitions.specs.Truth.{size_of}

@@ -1,8 +1,7 @@
 -- Which instances keep their truths under C, in the words of the statement.
-use Rattle.std.proofs.Common.{◌≡◌, ℕ, suc, Bool, true, false, List, [], ◌∷◌, map, length, get_or, Some, None, Option, sym, refl, ap, ◌∙◌, subst, zero-add, arith}
+use Rattle.std.proofs.Common.{◌≡◌, ℕ, suc, Bool, false, List, [], ◌∷◌, map, length, get_or, Some, None, Option, sym, refl, ap, ◌∙◌, subst, zero-add, arith}
 use lib.ListN.{length-map}
-use Rattle.definitions.specs.Lists.{at, map_from, strike}
-use Rattle.definitions.specs.Systems.{Equation}
+use Rattle.definitions.specs.Lists.{at, strike}
 use Rattle.definitions.specs.Terms.{truth_term, cut_equation}
 use Rattle.definitions.specs.Truth.{size_of, sizes_of}
 use Rattle.definitions.specs.Constants.{Known, least_knowledge, inserted, unknown_of}

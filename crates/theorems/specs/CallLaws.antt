@@ -1,5 +1,5 @@
 -- Every call has exactly one answer, and adds itself to every history.
-use Rattle.std.specs.Prelude.{◌≡◌, ℕ, ◌≤◌, List, ◌∷◌, length, Result}
+use Rattle.std.specs.Prelude.{◌≡◌, ℕ, ◌≤◌, List, length, Result}
 use Rattle.faults.specs.declared.ReadFault.{ReadFault}
 use Rattle.faults.specs.declared.PassFault.{PassFault}
 use Rattle.faults.specs.declared.SettleFault.{SettleFault}

@@ -1,4 +1,3 @@
-use Rattle.std.proofs.Common.{arith}
 use Rattle.bench.proofs.Tails.{zeros, tail_zero, delivered_rest}
 use Rattle.bench.proofs.Bench.run.Goals as goal
 

@@ -1,4 +1,4 @@
-use Rattle.std.proofs.Common.{◌≡◌, ℕ, ◌+◌, ◌^◌, ◌<◌, ◌≤◌, sym, subst, arith}
+use Rattle.std.proofs.Common.{ℕ, ◌+◌, ◌^◌, ◌<◌, ◌≤◌, sym, subst, arith}
 use Rattle.bits.proofs.Fields.{field_more, field_fits}
 use Rattle.bits.proofs.reader.number.Goals as goal
 use Rattle.bits.proofs.reader.number.Goals.{then-width-done, else-width-done}

@@ -1,4 +1,4 @@
-use Rattle.std.proofs.Common.{◌≡◌, ℕ, ◌-◌, ◌/◌, ◌%◌, ◌^◌, get_or, sym, ap, ◌∙◌, arith}
+use Rattle.std.proofs.Common.{ℕ, ◌-◌, ◌/◌, ◌%◌, ◌^◌, get_or, sym, ap, ◌∙◌, arith}
 use Rattle.bits.proofs.Fields.{field_in, weight}
 use Rattle.bits.proofs.reader.part.Goals as goal
 

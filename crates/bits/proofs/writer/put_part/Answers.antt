@@ -1,4 +1,4 @@
-use Rattle.std.proofs.Common.{◌≡◌, ℕ, ◌-◌, ◌*◌, ◌/◌, ◌%◌, ◌^◌, ◌<◌, get_or, set, sym, ◌∙◌, subst, ap₂, arith, rules}
+use Rattle.std.proofs.Common.{ℕ, ◌-◌, ◌*◌, ◌/◌, ◌%◌, ◌^◌, ◌<◌, get_or, set, sym, ◌∙◌, subst, ap₂, arith, rules}
 use Rattle.bits.proofs.Fields.{weight}
 use Rattle.bits.proofs.Puts.{with_bits, with_bits_small, put_in}
 use Rattle.bits.proofs.writer.put_part.Goals as goal

@@ -1,4 +1,4 @@
-use Rattle.std.proofs.Common.{◌≡◌, ℕ, sym, refl, ap, ◌∙◌, subst, arith}
+use Rattle.std.proofs.Common.{◌≡◌, ℕ, refl, subst, arith}
 use lib.ListN.{get_or-replicate}
 use Rattle.boolean.specs.Ranked.{Merged}
 use Rattle.boolean.proofs.Merges.{merged_none}

@@ -1,4 +1,4 @@
-use Rattle.std.proofs.Common.{◌≡◌, ◌-◌, get_or, sym, refl, ap, ◌∙◌, arith}
+use Rattle.std.proofs.Common.{◌-◌, get_or, ◌∙◌, arith}
 use Rattle.system.specs.declared.header.Sign.TheVariants.{Least}
 use Rattle.boolean.proofs.Merges.{rank_same, rank_new, rank_unused, same_true}
 use Rattle.boolean.proofs.merging.put_rank.Goals as goal

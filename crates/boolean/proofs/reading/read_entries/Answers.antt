@@ -1,5 +1,4 @@
-use Rattle.std.proofs.Common.{◌≡◌, ℕ, suc, ◌+◌, ◌-◌, ◌<◌, [], ◌∷◌, ◌++◌, length, get_or, replicate, None, sym, refl, ap, ◌∙◌, subst, arith, length-append, rules}
-use Rattle.definitions.specs.Reading.{stop}
+use Rattle.std.proofs.Common.{◌≡◌, ◌-◌, [], length, sym, ap, subst, arith}
 use Rattle.definitions.specs.Boolean.{read_variables}
 use Rattle.boolean.specs.Files.{ListTold}
 use Rattle.boolean.proofs.Parts.{passed}

@@ -1,4 +1,4 @@
-use Rattle.std.proofs.Common.{◌≡◌, sym, refl, ap, ◌∙◌, subst, arith, lit≤, rules}
+use Rattle.std.proofs.Common.{sym, subst, lit≤, rules}
 use Rattle.boolean.specs.Files.{EntryTold}
 use Rattle.boolean.specs.Steps.{assigned}
 use Rattle.definitions.specs.Boolean.{said}

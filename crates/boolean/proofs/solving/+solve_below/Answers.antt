@@ -1,4 +1,4 @@
-use Rattle.std.proofs.Common.{◌≡◌, suc, ◌-◌, sym, refl, ap, ◌∙◌, arith}
+use Rattle.std.proofs.Common.{◌≡◌, suc, ◌-◌, ap, ◌∙◌, arith}
 use Rattle.definitions.specs.Order as order
 use Rattle.definitions.specs.Nested.{solve}
 use Rattle.boolean.specs.Steps.{assigned}

@@ -1,4 +1,4 @@
-use Rattle.std.proofs.Common.{◌≡◌, ℕ, ◌-◌, length, get_or}
+use Rattle.std.proofs.Common.{◌-◌, get_or}
 use Rattle.definitions.specs.Order.{dual}
 use Rattle.definitions.specs.Order as order
 use Rattle.fixpoint.proofs.Rounds.{total}

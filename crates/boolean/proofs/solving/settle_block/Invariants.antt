@@ -1,4 +1,4 @@
-use Rattle.std.proofs.Common.{ℕ, length, get_or}
+use Rattle.std.proofs.Common.{length, get_or}
 use Rattle.definitions.specs.Lists.{at}
 use Rattle.definitions.specs.Order.{dual}
 use Rattle.fixpoint.proofs.Rounds.{total}

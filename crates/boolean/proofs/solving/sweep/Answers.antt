@@ -1,4 +1,4 @@
-use Rattle.std.proofs.Common.{◌≡◌, ℕ, ◌+◌, ◌-◌, ◌<◌, length, get_or, sym, refl, ap, ◌∙◌, subst, arith, rules}
+use Rattle.std.proofs.Common.{◌≡◌, ℕ, ◌+◌, ◌-◌, ◌<◌, length, get_or, subst, arith, rules}
 use Rattle.definitions.specs.Lists.{at}
 use Rattle.system.specs.declared.header.Sign.TheVariants.{Least}
 use Rattle.boolean.specs.Steps.{assigned}

@@ -1,4 +1,4 @@
-use Rattle.std.proofs.Common.{◌≡◌, false, get_or, sym, refl, ap, ◌∙◌, true≢false, arith}
+use Rattle.std.proofs.Common.{false, get_or, sym, refl, ◌∙◌, true≢false}
 use Rattle.boolean.specs.Steps.{assigned}
 use Rattle.boolean.specs.Ranked.{variables_of}
 use Rattle.boolean.proofs.Sweeping.{belongs_told, body_told, body_reads, beq_true, beq_false, not_beq, not_not_beq}

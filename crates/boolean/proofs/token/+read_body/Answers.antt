@@ -1,7 +1,7 @@
-use Rattle.std.proofs.Common.{◌≡◌, ◌+◌, ◌-◌, eqb, sym, refl, ap, ◌∙◌, arith, lit≤}
+use Rattle.std.proofs.Common.{◌+◌, ◌-◌, eqb, sym, ap, ◌∙◌, arith, lit≤}
 use Rattle.definitions.specs.Boolean.{said, read_token}
 use Rattle.boolean.specs.Steps.{assigned, mapped, told_said}
-use Rattle.boolean.proofs.Parts.{passed, opened, cut, deep, kind_no, kind_name, kind_cut, kind_parts, parts_next, parts_stop, parts_end, behind_kind}
+use Rattle.boolean.proofs.Parts.{passed, opened, cut, kind_no, kind_name, kind_cut, kind_parts, parts_next, parts_stop, parts_end, behind_kind}
 use Rattle.boolean.proofs.token.+read_body.Goals as goal
 
 pub returns-in_default : goal.returns-in_default

@@ -1,6 +1,6 @@
-use Rattle.std.proofs.Common.{◌≡◌, ℕ, ◌+◌, ◌-◌, Bool, List}
+use Rattle.std.proofs.Common.{◌≡◌, ◌+◌, ◌-◌}
 use Rattle.definitions.specs.Reading.{repeated}
-use Rattle.definitions.specs.Boolean.{Form, read_token}
+use Rattle.definitions.specs.Boolean.{read_token}
 use Rattle.boolean.specs.Steps.{assigned, mapped}
 use Rattle.boolean.proofs.Parts.{joined_parts}
 use Rattle.boolean.proofs.token.+read_body.Given as goal

@@ -1,4 +1,4 @@
-use Rattle.std.proofs.Common.{◌≡◌, get_or, sym, refl, ap, ◌∙◌, arith}
+use Rattle.std.proofs.Common.{get_or, sym, ap, ◌∙◌, arith}
 use Rattle.definitions.specs.ReadSystem.{read_of}
 use Rattle.system.specs.Steps.{scoped}
 use Rattle.system.specs.Bodies.{told_place}

@@ -1,4 +1,4 @@
-use Rattle.std.proofs.Common.{◌≡◌, ℕ, List, map, length, take as front, sym, refl, ap, ◌∙◌, arith, length-set}
+use Rattle.std.proofs.Common.{◌≡◌, map, length, take as front, sym, refl, ap, ◌∙◌, arith, length-set}
 use Rattle.definitions.specs.ReadSystem.{read_body}
 use Rattle.system.specs.Steps.{placed}
 use Rattle.system.specs.Files.{kept_header}

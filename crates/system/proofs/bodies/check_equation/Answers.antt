@@ -1,5 +1,4 @@
-use Rattle.std.proofs.Common.{◌≡◌, ◌-◌, [], ◌∷◌, map, length, get_or, take, sym, refl, ap, ◌∙◌, arith, rules}
-use Rattle.definitions.specs.ReadSystem.{scope}
+use Rattle.std.proofs.Common.{◌≡◌, ◌-◌, [], ◌∷◌, map, length, get_or, take, ap, ◌∙◌, arith, rules}
 use Rattle.system.specs.declared.header.Quantified.{Quantified}
 use Rattle.system.specs.declared.header.Quantifier.TheVariants.{Exists}
 use Rattle.system.specs.Files.{kept_header}

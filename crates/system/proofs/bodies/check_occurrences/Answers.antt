@@ -1,4 +1,4 @@
-use Rattle.std.proofs.Common.{◌≡◌, map, sym, refl, ap, ◌∙◌, arith}
+use Rattle.std.proofs.Common.{map, sym, ap, ◌∙◌, arith}
 use Rattle.definitions.specs.ReadSystem.{read_occurrence}
 use Rattle.system.specs.Steps.{scoped}
 use Rattle.system.specs.Files.{kept_header}

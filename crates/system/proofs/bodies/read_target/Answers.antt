@@ -1,4 +1,4 @@
-use Rattle.std.proofs.Common.{sym, arith, lit≤}
+use Rattle.std.proofs.Common.{arith, lit≤}
 use Rattle.system.specs.Files.{kept_header}
 use Rattle.system.proofs.Chains.{target_no, target_yes}
 use Rattle.system.proofs.bodies.read_target.Goals as goal

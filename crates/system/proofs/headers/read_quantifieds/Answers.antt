@@ -1,4 +1,4 @@
-use Rattle.std.proofs.Common.{◌≡◌, ◌+◌, map, take, set, sym, refl, ap, ◌∙◌, add-one, arith, length-set}
+use Rattle.std.proofs.Common.{◌+◌, map, take, set, sym, ap, ◌∙◌, add-one, arith, length-set}
 use Rattle.definitions.specs.ReadSystem.{read_quantified}
 use Rattle.system.specs.Files.{told_quantifieds, kept_quantified}
 use Rattle.system.proofs.Rows.{passed}

@@ -1,4 +1,4 @@
-use Rattle.std.proofs.Common.{◌≡◌, ◌+◌, take, set, sym, refl, ap, ◌∙◌, add-one, arith, length-set}
+use Rattle.std.proofs.Common.{◌+◌, take, set, sym, ap, ◌∙◌, add-one, arith, length-set}
 use Rattle.definitions.specs.ReadSystem.{read_sort}
 use Rattle.system.specs.Files.{told_sorts}
 use Rattle.system.proofs.Rows.{passed}

@@ -1,4 +1,4 @@
-use Rattle.std.proofs.Common.{◌≡◌, ◌-◌, map, length, take, sym, refl, ap, ◌∙◌, arith}
+use Rattle.std.proofs.Common.{◌≡◌, ◌-◌, map, length, take, ap, ◌∙◌, arith}
 use Rattle.definitions.specs.Reading.{one_by_one}
 use Rattle.definitions.specs.ReadSystem.{read_value_of}
 use Rattle.system.specs.Files.{kept_header}

@@ -1,4 +1,4 @@
-use Rattle.std.proofs.Common.{◌≡◌, ℕ, ◌-◌, map, length, take, sym, refl, ap, ◌∙◌, subst, arith, lit≤, rules}
+use Rattle.std.proofs.Common.{◌≡◌, ℕ, ◌-◌, map, take, refl, subst, arith, lit≤, rules}
 use Rattle.definitions.specs.Systems.{System}
 use Rattle.system.specs.Files.{kept_header}
 use Rattle.system.specs.Whole.{RestOf}

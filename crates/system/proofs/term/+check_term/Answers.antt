@@ -1,6 +1,6 @@
-use Rattle.std.proofs.Common.{◌≡◌, ℕ, ◌-◌, Some, None, sym, refl, ap, ◌∙◌, arith, lit≤}
+use Rattle.std.proofs.Common.{ℕ, ◌-◌, Some, sym, refl, ap, ◌∙◌, arith, lit≤}
 use Rattle.definitions.specs.Reading.{next, stop, follow}
-use Rattle.definitions.specs.ReadSystem.{read_term, read_kind}
+use Rattle.definitions.specs.ReadSystem.{read_term}
 use Rattle.system.specs.Steps.{told, sorts, placed, scoped}
 use Rattle.system.proofs.Rows.{opened, passed, placed_sorts, repeated_next, repeated_stop, repeated_end, each_next, each_stop, each_end}
 use Rattle.system.proofs.Behind.{kinds_no, kinds_yes, equal_no, equal_left, equal_right, operation_done, cut}

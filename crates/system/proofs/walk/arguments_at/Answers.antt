@@ -1,4 +1,4 @@
-use Rattle.std.proofs.Common.{◌≡◌, ◌+◌, ◌-◌, ◌≤◌, [], length, take, set, Some, None, sym, refl, ap, ◌∙◌, add-one, arith, length-set, length-take-le, rules}
+use Rattle.std.proofs.Common.{◌≡◌, ◌+◌, ◌-◌, ◌≤◌, [], length, take, set, Some, sym, refl, ap, ◌∙◌, add-one, arith, length-set, length-take-le, rules}
 use Rattle.system.specs.Walks.{arguments_of, term_places}
 use Rattle.system.proofs.Fills.{take_set, zeros_next, zeros_end}
 use Rattle.system.proofs.Found.{prefixed, places_begin, place_next, place_none, place_end}

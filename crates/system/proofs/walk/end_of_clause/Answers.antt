@@ -1,4 +1,4 @@
-use Rattle.std.proofs.Common.{◌≡◌, ◌-◌, take, Some, None, sym, refl, ap, ◌∙◌, arith}
+use Rattle.std.proofs.Common.{◌≡◌, ◌-◌, take, Some, sym, ap, ◌∙◌, arith}
 use Rattle.system.specs.Whole.{kept_headers}
 use Rattle.system.specs.Walks.{occurrences_end}
 use Rattle.system.proofs.Found.{clause_no_end, clause_end_at, end_next, end_none, end_end, end_found}

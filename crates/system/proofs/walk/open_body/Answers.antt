@@ -1,4 +1,4 @@
-use Rattle.std.proofs.Common.{◌≡◌, Some, None, Option, sym, refl, ap, ◌∙◌, subst, lit≤}
+use Rattle.std.proofs.Common.{Some, None, Option, sym, refl, subst, lit≤}
 use Rattle.terms.proofs.Fields.{field_came}
 use Rattle.system.specs.Walks.{BodyPlaces, BodyFound}
 use Rattle.system.specs.declared.places.BodyAt.{BodyAt}

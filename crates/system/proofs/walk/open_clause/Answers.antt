@@ -1,4 +1,4 @@
-use Rattle.std.proofs.Common.{◌≡◌, Some, None, Option, sym, refl, ap, ◌∙◌, subst, add-one, lit≤}
+use Rattle.std.proofs.Common.{Some, None, Option, sym, refl, subst, add-one, lit≤}
 use Rattle.terms.proofs.Fields.{field_came}
 use Rattle.system.specs.Walks.{ClausePlaces, ClauseFound}
 use Rattle.system.specs.declared.places.ClauseAt.{ClauseAt}

@@ -1,4 +1,4 @@
-use Rattle.std.proofs.Common.{◌≡◌, ℕ, ◌-◌, ◌<◌, ◌≤◌, length, get_or, take, Some, None, Option, sym, refl, ap, ◌∙◌, subst, arith, lit≤}
+use Rattle.std.proofs.Common.{◌≡◌, ℕ, ◌-◌, ◌<◌, ◌≤◌, length, get_or, take, Some, None, Option, sym, refl, subst, arith, lit≤}
 use Rattle.terms.proofs.Fields.{field_came}
 use Rattle.system.specs.Files.{kept_header}
 use Rattle.system.specs.Whole.{kept_headers}

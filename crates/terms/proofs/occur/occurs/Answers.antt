@@ -1,4 +1,4 @@
-use Rattle.std.proofs.Common.{◌≡◌, Some, None, sym, refl, ap, ◌∙◌}
+use Rattle.std.proofs.Common.{sym, ap, ◌∙◌}
 use Rattle.terms.specs.Shapes.{shape, what}
 use Rattle.terms.specs.Known.{occurs_at}
 use Rattle.terms.proofs.Folds.{stands_what, stands_not}

@@ -1,5 +1,4 @@
-use Rattle.std.proofs.Common.{◌≡◌, ◌-◌, sym, refl, ap, ◌∙◌}
-use Rattle.definitions.specs.Lists.{bind}
+use Rattle.std.proofs.Common.{◌-◌, sym, ap, ◌∙◌}
 use Rattle.definitions.specs.Systems.{operation, not, and, or, equal}
 use Rattle.definitions.specs.Values.{kind_known}
 use Rattle.terms.specs.Shown.{shown, term_of}

@@ -1,8 +1,8 @@
-use Rattle.std.proofs.Common.{◌≡◌, Some, None, sym, refl, ap, ◌∙◌}
+use Rattle.std.proofs.Common.{sym, ap, ◌∙◌}
 use Rattle.definitions.specs.Lists.{bind}
 use Rattle.definitions.specs.Systems.{fold}
 use Rattle.definitions.specs.Values.{kind_known}
-use Rattle.terms.specs.Shapes.{shape, standing, what}
+use Rattle.terms.specs.Shapes.{shape, what}
 use Rattle.terms.proofs.Folds.{known_same, stands_what, stands_not}
 use Rattle.terms.proofs.value.known_value.Goals as goal
 

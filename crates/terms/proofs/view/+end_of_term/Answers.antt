@@ -1,4 +1,4 @@
-use Rattle.std.proofs.Common.{◌≡◌, ◌+◌, ◌-◌, sym, ◌∙◌, arith, rules}
+use Rattle.std.proofs.Common.{◌+◌, ◌-◌, sym, ◌∙◌, arith, rules}
 use Rattle.terms.specs.Shapes.{shape}
 use Rattle.terms.specs.Shown.{kind_of}
 use Rattle.terms.proofs.Laws.{term_stands}

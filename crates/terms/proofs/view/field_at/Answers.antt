@@ -1,4 +1,4 @@
-use Rattle.std.proofs.Common.{◌≡◌, Some, None, sym, refl, ap, ◌∙◌}
+use Rattle.std.proofs.Common.{Some, None, refl, ap, ◌∙◌}
 use Rattle.terms.specs.Shown.{field_of}
 use Rattle.terms.proofs.Fields.{field_came}
 use Rattle.terms.proofs.view.field_at.Goals as goal

@@ -1,4 +1,4 @@
-use Rattle.std.proofs.Common.{◌≡◌, sym, refl, ap, ◌∙◌}
+use Rattle.std.proofs.Common.{sym, refl, ap, ◌∙◌}
 use Rattle.terms.specs.Shown.{opening_of}
 use Rattle.terms.proofs.Fields.{opening_at, value_no_sort, value_no_value, value_read}
 use Rattle.terms.proofs.view.open_term.Goals as goal

@@ -1,4 +1,4 @@
-use Rattle.std.proofs.Common.{◌≡◌, ℕ, ◌-◌, ◌≤◌, Some, None, sym, refl, ◌∙◌, subst, rules}
+use Rattle.std.proofs.Common.{◌≡◌, ◌-◌, Some, None, sym, refl, subst, rules}
 use Rattle.definitions.specs.Systems.{none}
 use Rattle.terms.specs.declared.view.Kind.{Kind}
 use Rattle.terms.specs.declared.view.Kind.TheVariants.{Parameter, Variable, Value, Operation, Not, And, Or, Equal}

@@ -1,4 +1,4 @@
-use Rattle.std.proofs.Common.{◌≡◌, ◌/◌, ◌<◌, ◌≤◌, length, sym, arith, rules}
+use Rattle.std.proofs.Common.{◌/◌, ◌≤◌, length, sym, arith, rules}
 use Rattle.algebra.specs.Lists.{front_in, front_out}
 use Rattle.algebra.proofs.counting.Counting.counts_in.Goals as goal
 

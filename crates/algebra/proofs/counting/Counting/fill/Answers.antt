@@ -1,4 +1,4 @@
-use Rattle.std.proofs.Common.{◌≡◌, true, leb, length, sym, ap, ◌∙◌, arith}
+use Rattle.std.proofs.Common.{◌≡◌, true, leb, length, sym, ap, ◌∙◌}
 use Rattle.std.proofs.lemmas.Bool.{leb-true, and_parts}
 use Rattle.algebra.specs.Limits.{sizes_fit, countable}
 use Rattle.algebra.proofs.counting.Counting.fill.Goals as goal

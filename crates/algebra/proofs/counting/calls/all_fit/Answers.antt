@@ -1,4 +1,4 @@
-use Rattle.std.proofs.Common.{◌≡◌, true, false, ◌&&◌, leb, length, sym, ap, ◌∙◌, ap₂, arith}
+use Rattle.std.proofs.Common.{◌&&◌, leb, length, sym, ◌∙◌, ap₂, arith}
 use Rattle.std.proofs.lemmas.Bool.{and_right, le-leb}
 use Rattle.algebra.specs.Limits.{size_fits, sizes_fit}
 use Rattle.algebra.specs.Lists.{each_step, each_stop, each_end}

@@ -1,4 +1,4 @@
-use Rattle.std.proofs.Common.{◌≡◌, ℕ, ◌+◌, ◌-◌, ◌*◌, ◌^◌, ◌<◌, ◌≤◌, ltb, List, length, take, sym, ap, ◌∙◌, arith}
+use Rattle.std.proofs.Common.{◌≡◌, ℕ, ◌+◌, ◌-◌, ◌^◌, ◌<◌, ◌≤◌, ltb, List, length, take, ap, ◌∙◌, arith}
 use Rattle.faults.specs.declared.Reason.TheVariants.{NoSuchSort}
 use Rattle.definitions.specs.Lists.{each}
 use Rattle.algebra.specs.Lists.{front_long}

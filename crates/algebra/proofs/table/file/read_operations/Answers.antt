@@ -1,11 +1,11 @@
-use Rattle.std.proofs.Common.{◌≡◌, ℕ, ◌+◌, ◌*◌, ◌≤◌, true, List, map, length, take, set, sym, ap, ◌∙◌, arith, length-set}
+use Rattle.std.proofs.Common.{◌≡◌, ℕ, ◌+◌, true, List, map, take, set, sym, ap, ◌∙◌, arith, length-set}
 use Rattle.definitions.specs.Reading.{next}
 use Rattle.definitions.specs.Tables.{read_op}
 use Rattle.algebra.specs.Kept.{values_of, kept_op, roomy}
 use Rattle.algebra.specs.Told.{told}
 use Rattle.algebra.specs.declared.table.file.Operations.{Operations}
 use Rattle.algebra.proofs.Rows.{passed, broken, fill_next, fill_stop, fill_end}
-use Rattle.algebra.proofs.Stays.{ends, ends_more, ends_next, ops_next}
+use Rattle.algebra.proofs.Stays.{ends_more, ends_next, ops_next}
 use Rattle.algebra.proofs.table.file.read_operations.Goals as goal
 
 pub returns-in_err-x : goal.returns-in_err-x

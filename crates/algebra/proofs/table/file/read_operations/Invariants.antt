@@ -1,4 +1,4 @@
-use Rattle.std.proofs.Common.{◌≡◌, ◌+◌, ◌-◌, ◌*◌, ◌≤◌, true, map, length, take}
+use Rattle.std.proofs.Common.{◌≡◌, ◌-◌, ◌*◌, ◌≤◌, true, map, length, take}
 use Rattle.definitions.specs.Reading.{repeated}
 use Rattle.definitions.specs.Tables.{read_op}
 use Rattle.algebra.specs.Kept.{kept_op}

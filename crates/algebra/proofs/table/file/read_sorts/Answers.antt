@@ -1,4 +1,4 @@
-use Rattle.std.proofs.Common.{◌≡◌, ◌+◌, take, set, sym, ap, ◌∙◌, add-one, arith, length-set, take-suc-set}
+use Rattle.std.proofs.Common.{◌+◌, take, set, sym, ap, ◌∙◌, add-one, arith, length-set, take-suc-set}
 use Rattle.faults.specs.declared.Reason.TheVariants.{NoSuchSort}
 use Rattle.definitions.specs.Reading.{take_for, below}
 use Rattle.algebra.specs.declared.table.file.Sorts.{Sorts}

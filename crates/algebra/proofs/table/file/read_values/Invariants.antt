@@ -1,4 +1,4 @@
-use Rattle.std.proofs.Common.{◌≡◌, ◌+◌, ◌-◌, ◌*◌, ◌≤◌, length, take, drop}
+use Rattle.std.proofs.Common.{◌≡◌, ◌+◌, ◌-◌, ◌*◌, ◌≤◌, take, drop}
 use Rattle.faults.specs.declared.Reason.TheVariants.{ValueTooLarge}
 use Rattle.definitions.specs.Reading.{take_for, below, repeated}
 use Rattle.algebra.proofs.Rows.{before}

@@ -1,5 +1,4 @@
-use Rattle.std.proofs.Common.{◌≡◌, ℕ, ◌-◌, ◌/◌, ◌%◌, ◌≤◌, List, length, replicate, sym, refl, ap, ◌∙◌, arith}
-use Rattle.bits.specs.Put.{closed}
+use Rattle.std.proofs.Common.{ℕ, ◌-◌, ◌/◌, ◌%◌, ◌≤◌, List, length, replicate, sym, ap, ◌∙◌, arith}
 use Rattle.bits.specs.declared.writer.BitWriter.{BitWriter}
 use Rattle.bits.proofs.Puts.{closes, overwritten_out}
 use Rattle.bits.proofs.writer.BitWriter.close.Goals as goal

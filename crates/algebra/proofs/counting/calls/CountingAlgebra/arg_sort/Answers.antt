@@ -1,4 +1,4 @@
-use Rattle.std.proofs.Common.{◌≡◌, ℕ, ◌/◌, ◌%◌, ◌<◌, ◌≤◌, List, length, take, Some, None, sym, ap, ◌∙◌, arith, rules}
+use Rattle.std.proofs.Common.{◌≡◌, length, take, arith, rules}
 use Rattle.definitions.specs.Alg.{Op}
 use Rattle.definitions.specs.Lists.{at}
 use Rattle.algebra.proofs.Counts.{arg_first, arg_second, arg_none, none_at}

@@ -1,6 +1,5 @@
-use Rattle.std.proofs.Common.{◌≡◌, ℕ, ◌/◌, ◌%◌, ◌<◌, ◌≤◌, List, length, take, Some, None, sym, ap, ◌∙◌, arith, rules}
+use Rattle.std.proofs.Common.{◌≡◌, length, take, Some, arith, rules}
 use Rattle.definitions.specs.Alg.{Op}
-use Rattle.definitions.specs.Lists.{at}
 use Rattle.algebra.proofs.Counts.{arity_one, arity_two, none_at}
 use Rattle.algebra.proofs.counting.calls.CountingAlgebra.arity.Goals as goal
 

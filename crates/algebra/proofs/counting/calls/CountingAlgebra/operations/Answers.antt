@@ -1,4 +1,4 @@
-use Rattle.std.proofs.Common.{◌≡◌, length, take, sym, arith, rules}
+use Rattle.std.proofs.Common.{◌≡◌, length, take, arith, rules}
 use Rattle.algebra.specs.Lawfuls.{counts_long}
 use Rattle.algebra.proofs.counting.calls.CountingAlgebra.operations.Goals as goal
 

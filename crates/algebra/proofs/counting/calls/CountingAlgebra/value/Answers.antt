@@ -1,4 +1,4 @@
-use Rattle.std.proofs.Common.{◌≡◌, ℕ, ◌/◌, ◌≤◌, leb, List, take, sym, arith}
+use Rattle.std.proofs.Common.{◌/◌, ◌≤◌, leb, take, sym}
 use Rattle.std.proofs.lemmas.Bool.{leb-true, and_parts}
 use Rattle.algebra.specs.Limits.{size_fits}
 use Rattle.algebra.specs.Lists.{every_at, every_each}

@@ -1,8 +1,8 @@
-use Rattle.std.proofs.Common.{◌≡◌, ℕ, ◌<◌, ◌≤◌, List, length, take, Some, None, sym, ap, ◌∙◌, arith}
+use Rattle.std.proofs.Common.{◌≡◌, ◌≤◌, length, take, sym, ◌∙◌, arith}
 use Rattle.definitions.specs.Alg.{Op}
 use Rattle.definitions.specs.Lists.{at}
 use Rattle.algebra.specs.Lists.{front_in, front_out}
-use Rattle.algebra.specs.Tables.{ask_some, ask_none, args_long}
+use Rattle.algebra.specs.Tables.{ask_some, ask_none}
 use Rattle.algebra.proofs.table.calls.TableAlgebra.arg_sort.Goals as goal
 
 pub returns-in_default : goal.returns-in_default

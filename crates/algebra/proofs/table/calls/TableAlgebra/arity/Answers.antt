@@ -1,7 +1,5 @@
-use Rattle.std.proofs.Common.{◌≡◌, ℕ, ◌<◌, ◌≤◌, List, length, take, Some, None, sym, ap, ◌∙◌, arith}
+use Rattle.std.proofs.Common.{length, take, Some, sym, ap, ◌∙◌}
 use Rattle.definitions.specs.Alg.{Op}
-use Rattle.definitions.specs.Lists.{at}
-use Rattle.algebra.specs.Lists.{front_in, front_out}
 use Rattle.algebra.specs.Tables.{ask_some, ask_none, args_long}
 use Rattle.algebra.proofs.table.calls.TableAlgebra.arity.Goals as goal
 

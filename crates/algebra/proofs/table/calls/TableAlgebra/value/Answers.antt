@@ -1,4 +1,4 @@
-use Rattle.std.proofs.Common.{◌≡◌, ℕ, ◌+◌, ◌-◌, ◌*◌, ◌^◌, ◌<◌, ◌≤◌, Bool, true, false, ltb, List, length, take, Some, None, Option, sym, ap, ◌∙◌, subst, ap₂, arith, length-take-le}
+use Rattle.std.proofs.Common.{◌≡◌, ℕ, ◌+◌, ◌-◌, ◌*◌, ◌^◌, ◌<◌, ◌≤◌, true, false, ltb, List, length, take, Some, None, Option, sym, ◌∙◌, subst, ap₂, arith}
 use Rattle.definitions.specs.Lists.{each, product}
 use Rattle.definitions.specs.Alg.{Op, within, sized}
 use Rattle.definitions.specs.Tables.{place_of}
