@@ -9,8 +9,8 @@ pub mod folding;
 mod plan;
 pub mod redundant;
 mod rewrite;
-mod terms;
 pub mod unreachable_equations;
+mod written;
 
 use algebra::Algebra;
 use faults::PassFault;

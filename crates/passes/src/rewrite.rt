@@ -3,7 +3,7 @@ ghost use Rattle.std.specs.Prelude.{◌≡◌, ◌≤◌, ◌++◌, length, drop
 ghost use Rattle.passes.specs.Fronts.{Fronts};
 
 use crate::plan::{Plan, number_among, renumbered};
-use crate::terms::{Edit, write_term, write_value};
+use crate::written::{Edit, write_term, write_value};
 use algebra::Algebra;
 use bits::{BitWriter, Full};
 use faults::{PassFault, Reason};
