@@ -14,7 +14,7 @@ use Rattle.system.specs.declared.places.OccurrenceAt.{OccurrenceAt}
 use Rattle.system.specs.Walks.{term_end, counted, term_places, occurrence_places, occurrences_end, clause_end, BodyPlaces, ClausePlaces, OccurrencePlaces, BodyFound, ClauseFound, OccurrenceFound, EndFound}
 use Rattle.system.proofs.Fills.{snoc, nil}
 use Rattle.system.proofs.Lists.{at_small}
-use Rattle.system.proofs.Outlines.{get_d_front}
+use Rattle.system.proofs.Outlines.{get_or_front}
 
 abbrev stood : {A : Type 0} → A → ℕ → Option (A × ℕ)
 stood x q = Some (x, q)
@@ -264,7 +264,7 @@ module _ (a : Alg) (f : List ℕ) (p : ℕ) where
           count = n;
           arguments = λ k t h.
               let l : k < x.count = (let m : k < length o.arguments = at_small o.arguments k t h in omega arith) in
-              ap (standing a greatest_depth f) (sym (get_d_front x.arguments x.count k l) ∙ ap (λ z. get_or z k 0) (sym c.1.0)) ∙ d.1.1.1 k t h;
+              ap (standing a greatest_depth f) (sym (get_or_front x.arguments x.count k l) ∙ ap (λ z. get_or z k 0) (sym c.1.0)) ∙ d.1.1.1 k t h;
           end = sym c.1.1;
         }
 

@@ -61,11 +61,11 @@ each_tells {X} {B} g r f t (x ∷ xs) p ys q e = go (λ u zs v. each_tells g r f
     go ih (next y u) k e = rest y (t x p y u k) (one_by_one r xs f u) (ih u) e
     go ih (stop s u) k e = let z : ◌≡◌ {A = ℕ} 0 1 = cc in absurd (omega arith)
 
-pub get_d_front : (ps : List ℕ) (n i : ℕ) → i < n → get_or (front n ps) i 0 ≡ get_or ps i 0
-get_d_front ps zero i h = absurd (omega arith)
-get_d_front [] (suc n) i h = refl
-get_d_front (p ∷ ps) (suc n) zero h = refl
-get_d_front (p ∷ ps) (suc n) (suc i) h = get_d_front ps n i (omega arith)
+pub get_or_front : (ps : List ℕ) (n i : ℕ) → i < n → get_or (front n ps) i 0 ≡ get_or ps i 0
+get_or_front ps zero i h = absurd (omega arith)
+get_or_front [] (suc n) i h = refl
+get_or_front (p ∷ ps) (suc n) zero h = refl
+get_or_front (p ∷ ps) (suc n) (suc i) h = get_or_front ps n i (omega arith)
 
 module _ (a : Alg) (hs : List Header) (f : List ℕ) (p : ℕ) where
   pub rest_no_bodies : (r : Reason) (t : ℕ) → stop r t ≡ placed (one_by_one (read_body a hs) hs f p) → read_rest a hs f p ≡ stop r t
@@ -111,7 +111,7 @@ module _ (a : Alg) (hs : List Header) (f : List ℕ) (p : ℕ) where
           let x = d.0 in
           let r = d.1.1.1 in
           let h : header_of e ≡ x = read_header_lem a hs x f (get_or (places_of (read_body a hs) hs f p) i 0) e d.1.0 r in
-          let g : get_or ps i 0 ≡ get_or (places_of (read_body a hs) hs f p) i 0 = sym (get_d_front ps (length hs) i (at_small hs i x d.1.1.0)) ∙ ap (λ z. get_or z i 0) w in
+          let g : get_or ps i 0 ≡ get_or (places_of (read_body a hs) hs f p) i 0 = sym (get_or_front ps (length hs) i (at_small hs i x d.1.1.0)) ∙ ap (λ z. get_or z i 0) w in
           (d.1.0, ap (λ y. read_body a hs y f (get_or ps i 0)) h ∙ ap (λ y. read_body a hs x f y) g ∙ r)
 
 positive : (n : ℕ) → (n ≡ 0 → ⊥) → true ≡ ltb 0 n

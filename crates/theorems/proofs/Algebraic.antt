@@ -13,7 +13,7 @@ use Rattle.definitions.specs.FileFits.{OpFits, TableFits}
 use Rattle.definitions.specs.Tables.{TableOp, Table, place_of, tabled, table, table_reading}
 use Rattle.definitions.specs.Calls.{Bytes, Filling, filled, unfilled, counting_fill, table_fill_by, table_fill}
 use Rattle.theorems.specs.AlgebraLaws.{AlgebrasLawful}
-use Rattle.theorems.proofs.Listing.{none_some, some_same, get_d_at, every_at, every_append, every_mapped, every_with, at_lt, and_left, and_right}
+use Rattle.theorems.proofs.Listing.{none_some, some_same, get_or_some, every_at, every_append, every_mapped, every_with, at_lt, and_left, and_right}
 use Rattle.theorems.proofs.TableFiles.{table_forth}
 use Rattle.theorems.proofs.Ranges.{truth_low}
 
@@ -46,7 +46,7 @@ module _ (sizes : List ℕ) where
   within_all (s ∷ ss) [] l h b = absurd (omega arith)
   within_all (s ∷ ss) (x ∷ xs) l h b =
       let (z, e) = at_some sizes s h.0 in
-      let w : get_or sizes s 0 ≡ z = get_d_at 0 sizes s z e in
+      let w : get_or sizes s 0 ≡ z = get_or_some 0 sizes s z e in
       let u : x < z = b 0 s z refl e in
       ap₂ (λ p q. p && q) (lt-ltb x (get_or sizes s 0) (omega arith)) (within_all ss xs (omega arith) h.1 (λ k. b (suc k)))
 
@@ -59,7 +59,7 @@ module _ (sizes : List ℕ) where
       (ap suc r.0, low r.1 (ltb-true x (get_or sizes s 0) (and_left (ltb x (get_or sizes s 0)) (within (sized sizes ss) xs) h)))
     where
       low : ((k t z : ℕ) → at ss k ≡ Some t → at sizes t ≡ Some z → get_or xs k 0 < z) → x < get_or sizes s 0 → (k t z : ℕ) → at (s ∷ ss) k ≡ Some t → at sizes t ≡ Some z → get_or (x ∷ xs) k 0 < z
-      low r u zero t z e w = let q : get_or sizes s 0 ≡ z = get_d_at 0 sizes s z (ap (at sizes) (some_same s t e) ∙ w) in omega arith
+      low r u zero t z e w = let q : get_or sizes s 0 ≡ z = get_or_some 0 sizes s z (ap (at sizes) (some_same s t e) ∙ w) in omega arith
       low r u (suc k) t z e w = r k t z e w
 
   module _ (os : List Op) (some_sort : 1 ≤ length sizes) (few_sorts : length sizes ≤ 16) (truths : at sizes 0 ≡ Some 2) (fit : Every (λ n. (1 ≤ n) × (n ≤ 256)) sizes)
@@ -99,7 +99,7 @@ module _ (sizes : List ℕ) where
           below = λ o xs v e.
               let (q, there, w, u) = value_inv o xs v e in
               let (n, m) = at_some sizes q.res (op_at o q there).res in
-              let k : get_or sizes q.res 0 ≡ n = get_d_at 0 sizes q.res n m in
+              let k : get_or sizes q.res 0 ≡ n = get_or_some 0 sizes q.res n m in
               let l : q.run xs < get_or sizes q.res 0 = (op_at o q there).run xs w in
               (q.res, n, ap (λ z. bind z (λ (q : Op). Some q.res)) there, m, omega arith);
           total = λ o n xs ar l h.
@@ -133,8 +133,8 @@ counts_fit : (sizes : List ℕ) (s n : ℕ) → at sizes s ≡ Some n → at siz
 counts_fit sizes s n e t l =
     let i : s < length sizes = at_lt sizes s n e in
     let i₀ : 0 < length sizes = at_lt sizes 0 2 t in
-    let g : get_or sizes s 0 ≡ n = get_d_at 0 sizes s n e in
-    let g₀ : get_or sizes 0 0 ≡ 2 = get_d_at 0 sizes 0 2 t in (
+    let g : get_or sizes s 0 ≡ n = get_or_some 0 sizes s n e in
+    let g₀ : get_or sizes 0 0 ≡ 2 = get_or_some 0 sizes 0 2 t in (
       record { few = omega arith; args = (i, tt); res = i; run = λ xs h. omega arith },
       (
         record { few = omega arith; args = (i, tt); res = i; run = λ xs h. let a : first xs < n = one_in sizes s n xs e h in omega arith },

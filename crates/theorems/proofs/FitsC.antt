@@ -9,7 +9,7 @@ use Rattle.definitions.specs.Values.{known, is_false}
 use Rattle.definitions.specs.Terms.{on_parameter, replaced, on_occurrence, on_clause, cut_equation}
 use Rattle.definitions.specs.Fits.{Every, Fits, fit_parameter, fit_value, TermsFit, ValuesFit, header_of, SortFits, HeaderFits, OccurrenceFits, ClauseFits, BodyFits, SystemFits}
 use Rattle.definitions.specs.Constants.{Known, Knowledge, Brought, agreed, agreed_all, taken, learnt, learnt_all, clause_brings, equation_brings, all_bring, brought, unreached, height, least_knowledge, kind_for, inserted, unknown_of, pass_c}
-use Rattle.theorems.proofs.Listing.{every_append, every_map, some_same, none_some, get_d_at, at_map_from, map_from_twice, map_twice, every_mapped, at_map_some, at_mapped, strike_short, map_from_long, every_unmapped}
+use Rattle.theorems.proofs.Listing.{every_append, every_map, some_same, none_some, get_or_some, at_map_from, map_from_twice, map_twice, every_mapped, at_map_some, at_mapped, strike_short, map_from_long, every_unmapped}
 use Rattle.theorems.proofs.Ranges.{InSort, known_low}
 use Rattle.theorems.proofs.Cut.{strike_map}
 use Rattle.theorems.proofs.Refit.{replaced_fits, replaced_twice, strike_at, place_low, strike_every, strike_values, strike_terms, every_map_from, value_fits}
@@ -171,7 +171,7 @@ module _ (a : Alg) (law : Lawful a) where
     pub knowledge_long : (i : ℕ) (e : Equation) (ks : Known) → at s.equations i ≡ Some e → at (least_knowledge a s) i ≡ Some (Some ks) → length e.sorts ≡ length ks
     knowledge_long i e ks p q =
         known_long a e.sorts ks
-        (subst (OneFits a e) (get_d_at None (least_knowledge a s) i (Some ks) q) (all_at a s.equations (least_knowledge a s) knowledge_fits i e p))
+        (subst (OneFits a e) (get_or_some None (least_knowledge a s) i (Some ks) q) (all_at a s.equations (least_knowledge a s) knowledge_fits i e p))
 
     abbrev after : ℕ → Equation → Equation
     after i e = cut_equation (masks a s) i (inserted e (get_or (what a s) i None))
@@ -232,7 +232,7 @@ module _ (a : Alg) (law : Lawful a) where
               (strike_at mask n e.sorts r
               (ap (λ m. get_or m n false) mask_is ∙ unknown_kept e.sorts ks n r (known_long a e.sorts ks kf) p q) p)
           go (Some v) q =
-              subst (λ z. Fits a new (suc d) r (node (value z v) none)) (sym (get_d_at 0 e.sorts n r p))
+              subst (λ z. Fits a new (suc d) r (node (value z v) none)) (sym (get_or_some 0 e.sorts n r p))
               (value_fits a law new d r v (known_at a e.sorts ks kf n r v p q))
 
       refits : (d r : ℕ) (t : Term) → Fits a old d r t → Fits a new d r (renumbered (put_in t))
@@ -285,7 +285,7 @@ module _ (a : Alg) (law : Lawful a) where
         record { h = fit_value (omega arith) (omega arith) law.truths (omega arith); few = omega arith; fit = tt }
     any_body_fits i e p (Some ks) q h b =
         body_fits i e ks
-        (get_d_at [] (masks a s) i _ (at_map_from 0 (λ i e. unknown_of e (get_or (what a s) i None)) s.equations i e p) ∙
+        (get_or_some [] (masks a s) i _ (at_map_from 0 (λ i e. unknown_of e (get_or (what a s) i None)) s.equations i e p) ∙
         ap (λ z. unknown_of e (get_or (what a s) z None)) (zero-add i) ∙ ap (unknown_of e) q) h b
 
     pub fits : SystemFits a (pass_c a s)

@@ -13,7 +13,7 @@ use Rattle.definitions.specs.Constants.{Known, Knowledge, clause_brings, equatio
 use Rattle.fixpoint.specs.Laws.{Agree, Matched}
 use Rattle.theorems.proofs.Knows.{Unders, get_or_under, trans_unders, Met, All, to_all, all_left, all_right}
 use Rattle.theorems.proofs.Stable.{stands}
-use Rattle.theorems.proofs.Listing.{every_map, each_map, some_map, some_same, none_some, get_d_at, at_map_from, map_from_twice, map_twice, every_mapped, every_at, every_two, at_map_some}
+use Rattle.theorems.proofs.Listing.{every_map, each_map, some_map, some_same, none_some, get_or_some, at_map_from, map_from_twice, map_twice, every_mapped, every_at, every_two, at_map_some}
 use Rattle.theorems.proofs.Monotone.{equals, each_is, some_is, under_is, clause_is, inside_is}
 use Rattle.theorems.proofs.Ranges.{arguments_low, arguments_there, values_low}
 use Rattle.theorems.proofs.Agrees.{arguments_under, holds_not_false}
@@ -89,8 +89,8 @@ module _ (a : Alg) (s : System) where
   mask_of : (i : ℕ) (e : Equation) (ks : Known) → at s.equations i ≡ Some e → at what i ≡ Some (Some ks) →
       get_or masks i [] ≡ map (λ k. flip (is_some k)) ks
   mask_of i e ks p q =
-      get_d_at [] masks i _ (at_map_from 0 (λ i e. unknown_of e (get_or what i None)) s.equations i e p) ∙
-      ap (λ z. unknown_of e (get_or what z None)) (zero-add i) ∙ ap (unknown_of e) (get_d_at None what i (Some ks) q)
+      get_or_some [] masks i _ (at_map_from 0 (λ i e. unknown_of e (get_or what i None)) s.equations i e p) ∙
+      ap (λ z. unknown_of e (get_or what z None)) (zero-add i) ∙ ap (unknown_of e) (get_or_some None what i (Some ks) q)
 
   written_at : (i : ℕ) (e : Equation) (ks : Known) → at s.equations i ≡ Some e → at what i ≡ Some (Some ks) →
       at (pass_c a s).equations i ≡ Some (cut_equation masks i (inserted e (Some ks)))
@@ -98,7 +98,7 @@ module _ (a : Alg) (s : System) where
       ap (λ z. at z i) (map_from_twice 0 (cut_equation masks) (λ i e. inserted e (get_or what i None)) s.equations) ∙
       at_map_from 0 (λ i e. cut_equation masks i (inserted e (get_or what i None))) s.equations i e p ∙
       ap (λ z. Some (cut_equation masks z (inserted e (get_or what z None)))) (zero-add i) ∙
-      ap (λ z. Some (cut_equation masks i (inserted e z))) (get_d_at None what i (Some ks) q)
+      ap (λ z. Some (cut_equation masks i (inserted e z))) (get_or_some None what i (Some ks) q)
 
   module _ (law : Lawful a) (fit : SystemFits a s) where
     all_met : All what (brought a s what)

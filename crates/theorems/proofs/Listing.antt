@@ -24,10 +24,10 @@ at_lt [] n x e = none_some x e
 at_lt (y ∷ xs) zero x e = omega arith
 at_lt (y ∷ xs) (suc n) x e = omega (arith, at_lt xs n x e)
 
-pub get_d_at : {A : Type 0} (d : A) (xs : List A) (n : ℕ) (x : A) → at xs n ≡ Some x → get_or xs n d ≡ x
-get_d_at d [] n x e = none_some x e
-get_d_at d (y ∷ xs) zero x e = some_same y x e
-get_d_at d (y ∷ xs) (suc n) x e = get_d_at d xs n x e
+pub get_or_some : {A : Type 0} (d : A) (xs : List A) (n : ℕ) (x : A) → at xs n ≡ Some x → get_or xs n d ≡ x
+get_or_some d [] n x e = none_some x e
+get_or_some d (y ∷ xs) zero x e = some_same y x e
+get_or_some d (y ∷ xs) (suc n) x e = get_or_some d xs n x e
 
 pub at_map : {A B : Type 0} (g : A → B) (xs : List A) (n : ℕ) → at (map g xs) n ≡ bind (at xs n) (λ x. Some (g x))
 at_map g [] n = refl

@@ -14,7 +14,7 @@ use Rattle.definitions.specs.Fits.{Every, header_of, BodyFits, SystemFits}
 use Rattle.definitions.specs.ReadSystem.{scope}
 use Rattle.fixpoint.proofs.Rounds.{pick}
 use Rattle.theorems.proofs.Closing.{closes}
-use Rattle.theorems.proofs.Listing.{every_map, every_of, get_d_at, every_at, every_two, at_mapped, at_lt, from_long}
+use Rattle.theorems.proofs.Listing.{every_map, every_of, get_or_some, every_at, every_two, at_mapped, at_lt, from_long}
 use Rattle.theorems.proofs.Monotone.{orders, some_is}
 use Rattle.theorems.proofs.Cut.{OnKinds, OnAll, OnParameters, fits_scoped, terms_fit}
 use Rattle.theorems.proofs.KeepsCut.{Keeps, Closed}
@@ -194,7 +194,7 @@ module _ (a : Alg) (s : System) (fit : SystemFits a s) (i : ℕ) (e : Equation) 
   kept : (n r : ℕ) → at e.sorts n ≡ Some r → (marked e n || feeds masks e n) ≡ true → get_or (get_or masks i []) n false ≡ true
   kept n r l h =
       needed_closed s (i, n)
-      (ap (λ z. get_or z n false) (get_d_at [] (marks s masks) i _ (at_mapped (λ (e : Equation). map (λ k. marked e k || feeds masks e k) (up_to (length e.sorts))) s.equations i e p)) ∙
+      (ap (λ z. get_or z n false) (get_or_some [] (marks s masks) i _ (at_mapped (λ (e : Equation). map (λ k. marked e k || feeds masks e k) (up_to (length e.sorts))) s.equations i e p)) ∙
       get_or_from (λ k. marked e k || feeds masks e k) 0 (length e.sorts) n (at_lt e.sorts n r l) ∙
       ap (λ z. marked e z || feeds masks e z) (zero-add n) ∙ h)
 

@@ -16,7 +16,7 @@ use Rattle.definitions.specs.Reach.{ReachesMark, is_marked, leads_on, ReachedEqu
 use Rattle.theorems.specs.PassLaws.{RKeepsWhatReachesAMark, UKeepsWhatIsReached, UKeepsTruths}
 use Rattle.fixpoint.proofs.Rounds.{pick}
 use Rattle.theorems.proofs.Closing.{times_iter}
-use Rattle.theorems.proofs.Listing.{get_d_at, every_at, at_map_some, at_mapped, from_long, at_lt}
+use Rattle.theorems.proofs.Listing.{get_or_some, every_at, at_map_some, at_mapped, from_long, at_lt}
 use Rattle.theorems.proofs.Marks.{bit, needed_closed, get_or_from, true_low}
 use Rattle.theorems.proofs.KeepsU.{strike_some, reached_closed, truth_kept}
 
@@ -103,7 +103,7 @@ mark_kept : (s : System) (i k : ℕ) (e : Equation) → at s.equations i ≡ Som
     bit (needed s) (i, k) ≡ true
 mark_kept s i k e p l h =
     needed_closed s (i, k)
-    (ap (λ z. get_or z k false) (get_d_at [] (marks s (needed s)) i _ (at_mapped (row_of (needed s)) s.equations i e p)) ∙
+    (ap (λ z. get_or z k false) (get_or_some [] (marks s (needed s)) i _ (at_mapped (row_of (needed s)) s.equations i e p)) ∙
     get_or_from (λ k. marked e k || feeds (needed s) e k) 0 (length e.sorts) k l ∙ ap (λ z. marked e z || feeds (needed s) e z) (zero-add k) ∙ h)
 
 reaching_kept : (s : System) {i k : ℕ} → ReachesMark s i k → bit (needed s) (i, k) ≡ true

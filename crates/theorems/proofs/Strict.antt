@@ -10,7 +10,7 @@ use Rattle.definitions.specs.Terms.{on_parameter, replaced, truth_term, on_occur
 use Rattle.definitions.specs.Constants.{Known, kind_for, bare, inserted, unknown_of, pass_c, least_knowledge}
 use Rattle.definitions.specs.Passes.{folded, foldeds, folded_as, folded_equation, pass_f, needed, pass_r, renamed, reachable, pass_u}
 use Rattle.definitions.specs.Settle.{kind_weight, term_weight, occurrence_weight, clause_weight, false_term, fullness, equation_weight, weight}
-use Rattle.theorems.proofs.Listing.{every_map, every_at, every_two, at_map_some, get_d_at, at_map_from, at_lt}
+use Rattle.theorems.proofs.Listing.{every_map, every_at, every_two, at_map_some, get_or_some, at_map_from, at_lt}
 use Rattle.theorems.proofs.FitShapes.{values_long, terms_long}
 use Rattle.theorems.proofs.Cut.{OnKinds, OnAll, OnParameters, on_map, fits_scoped, terms_fit}
 use Rattle.theorems.proofs.KeepsC.{inserted_sorts}
@@ -220,7 +220,7 @@ c_strict a s fit l =
     subst (λ (ss : List ℕ). Full (get_or masks i []) (length ss)) (sym (inserted_sorts e (get_or K (0 + i) None)))
     (whole_masks masks (map_from 0 g es) l₁ i (g (0 + i) e) (at_map_from 0 g es i e p)) in
     let stays : (i : ℕ) (e : Equation) → at es i ≡ Some e → g i e ≡ e = λ i e p.
-    let m : get_or masks i [] ≡ u i e = get_d_at [] masks i (u (0 + i) e) (at_map_from 0 u es i e p) ∙ ap (λ (j : ℕ). u j e) (zero_plus i) in
+    let m : get_or masks i [] ≡ u i e = get_or_some [] masks i (u (0 + i) e) (at_map_from 0 u es i e p) ∙ ap (λ (j : ℕ). u j e) (zero_plus i) in
     inserted_stays a (map header_of es) e (get_or K i None) (every_at (BodyFits a (map header_of es)) es i e p fit.bodies)
     (subst (λ (mask : List Bool). Full mask (length e.sorts)) m (whole i e p))
     (tight_0 equation_weight g (λ i e. inserted_le e (get_or K i None)) es l₂ i e p) in

@@ -6,7 +6,7 @@ use Rattle.definitions.specs.Terms.{truth_term, cut_equation}
 use Rattle.definitions.specs.Truth.{size_of, sizes_of}
 use Rattle.definitions.specs.Constants.{Known, least_knowledge, inserted, unknown_of}
 use Rattle.theorems.specs.PassLaws.{left, unknowns, CKeepsTruths, CBaresUnreached}
-use Rattle.theorems.proofs.Listing.{get_d_at, at_map_from, map_from_twice}
+use Rattle.theorems.proofs.Listing.{get_or_some, at_map_from, map_from_twice}
 use Rattle.theorems.proofs.Knows.{Under, same, unknown, Unders}
 use Rattle.theorems.proofs.Cut.{within_long}
 use Rattle.theorems.proofs.KeepsC.{truth_kept}
@@ -49,7 +49,7 @@ bares a s i e p q =
     let K = least_knowledge a s in
     let ms = unknowns a s in
     let mask : get_or ms i [] ≡ map (λ _. false) e.sorts =
-    get_d_at [] ms i _ (at_map_from 0 (λ i e. unknown_of e (get_or K i None)) s.equations i e p) ∙ ap (λ z. unknown_of e (get_or K z None)) (zero-add i) ∙ ap (unknown_of e) q in
+    get_or_some [] ms i _ (at_map_from 0 (λ i e. unknown_of e (get_or K i None)) s.equations i e p) ∙ ap (λ z. unknown_of e (get_or K z None)) (zero-add i) ∙ ap (unknown_of e) q in
     ap (λ z. at z i) (map_from_twice 0 (cut_equation ms) (λ i e. inserted e (get_or K i None)) s.equations) ∙
     at_map_from 0 (λ i e. cut_equation ms i (inserted e (get_or K i None))) s.equations i e p ∙
     ap (λ z. Some (cut_equation ms z (inserted e (get_or K z None)))) (zero-add i) ∙
