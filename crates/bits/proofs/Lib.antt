@@ -3,3 +3,4 @@ pub mod Puts
 pub mod Bytewise
 pub mod Written
 pub mod Packs
+pub mod InRow

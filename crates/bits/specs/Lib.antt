@@ -1,3 +1,5 @@
 pub mod Took
 pub mod Put
 pub mod Back
+pub mod Told
+pub mod InRow

@@ -2,10 +2,13 @@
 
 #![tactic(auto)]
 
+mod cursor;
+mod file;
 mod laws;
 mod reader;
 mod writer;
 
+pub use file::Cursor;
 pub use laws::writing_stands;
 pub use reader::BitReader;
 pub use writer::{BitWriter, Full};

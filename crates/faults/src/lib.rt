@@ -67,6 +67,13 @@ pub enum Layer {
     Solve,
 }
 
+/// Why reading a file stops, and at which bit.
+#[derive(Clone, Copy, PartialEq, Eq, Debug)]
+pub struct Stop {
+    pub reason: Reason,
+    pub place: usize,
+}
+
 /// A reason with its layer and its bit place.
 #[derive(Clone, Copy, PartialEq, Eq, Debug)]
 pub struct Fault {
@@ -122,6 +129,39 @@ pub enum ExpandFault {
 pub struct SolveFault {
     pub reason: Reason,
     pub place: usize,
+}
+
+impl From<Stop> for TableFault {
+    ghost from_gives = { λ x y. (y.reason ≡ x.reason) × (y.place ≡ x.place) };
+
+    fn from(stop: Stop) -> TableFault {
+        TableFault {
+            reason: stop.reason,
+            place: stop.place,
+        }
+    }
+}
+
+impl From<Stop> for ReadFault {
+    ghost from_gives = { λ x y. (y.reason ≡ x.reason) × (y.place ≡ x.place) };
+
+    fn from(stop: Stop) -> ReadFault {
+        ReadFault {
+            reason: stop.reason,
+            place: stop.place,
+        }
+    }
+}
+
+impl From<Stop> for SolveFault {
+    ghost from_gives = { λ x y. (y.reason ≡ x.reason) × (y.place ≡ x.place) };
+
+    fn from(stop: Stop) -> SolveFault {
+        SolveFault {
+            reason: stop.reason,
+            place: stop.place,
+        }
+    }
 }
 
 impl From<ReadFault> for PassFault {

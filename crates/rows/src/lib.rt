@@ -1,0 +1,8 @@
+//! Rows: records side by side in a place of fixed size, in order.
+
+#![tactic(auto)]
+
+mod calls;
+mod row;
+
+pub use row::{NoPlace, Row};

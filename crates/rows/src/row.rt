@@ -1,0 +1,29 @@
+//! A row and what it lists.
+ghost use Rattle.std.specs.Prelude.{◌≡◌, ◌≤◌, ⊤};
+
+use std::alloc::AllocError;
+
+/// Up to `N` records in order.
+///
+/// A row lies in one place of fixed size and is copied as one value, which the library's vectors are not.
+pub struct Row<T, const N: usize> {
+    pub items: [T; N],
+    pub len: usize,
+    ghost within: { len ≤ N },
+}
+
+impl<T: Copy, const N: usize> Copy for Row<T, N> {}
+
+impl<T: Copy, const N: usize> Clone for Row<T, N> {
+    ghost is_clone = { λ x y. y ≡ x };
+
+    ghost is_infallible = { λ _. ⊤ };
+
+    fn clone(&self) -> Result<Row<T, N>, AllocError> {
+        Ok(*self)
+    }
+}
+
+/// The row has no place left.
+#[derive(Clone, Copy, PartialEq, Eq, Debug)]
+pub struct NoPlace;
