@@ -4,11 +4,13 @@
 
 mod cursor;
 mod file;
+mod front;
 mod laws;
 mod reader;
 mod writer;
 
 pub use file::Cursor;
+pub use front::deliver;
 pub use laws::writing_stands;
 pub use reader::BitReader;
 pub use writer::{BitWriter, Full};
