@@ -27,18 +27,13 @@ fn put_number(bytes: &mut [u8], at: usize, value: u32, width: u32)
     requires within { at + width ≤ 8 * length bytes.old }
     ensures { bytes.new ≡ overwritten bytes.old at (bits_of width value) }
 {
-    let mut done = 0u32;
-    while done < width {
-        let place = at + done as usize;
-        let free = 8 - (place % 8) as u32;
-        let count = if width - done < free {
-            width - done
-        } else {
-            free
-        };
-        let part = (value >> (width - done - count)) % (1 << count);
-        put_part(bytes, place, part, count);
-        done += count;
+    let end = at + width as usize;
+    for i in at / 8..(end + 7) / 8 {
+        let from = at.max(8 * i);
+        let to = end.min(8 * i + 8);
+        let count = (to - from) as u32;
+        let part = (value >> (end - to) as u32) % (1 << count);
+        put_part(bytes, from, part, count);
     }
 }
 
