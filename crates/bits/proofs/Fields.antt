@@ -57,17 +57,6 @@ field_in f p (suc (suc k)) h =
 pub weight : (k : ℕ) → k ≤ 31 → (1 * 2 ^ k) % 2 ^ 32 ≡ 2 ^ k
 weight k h = shl_exact {a = 1} 1 k 32 (omega arith) (omega arith) ∙ (let e : 1 * 2 ^ k ≡ 2 ^ k = omega arith in e)
 
--- what a shifted field is
-pub shifted : (f : List ℕ) (p k w : ℕ) → k + w ≤ 32 → (field f p k * 2 ^ w) % 2 ^ 32 ≡ field f p k * 2 ^ w
-shifted f p k w h = shl_exact k w 32 (field_small f p k) h
-
--- a field of at most 32 bits fits them
-pub field_fits : (f : List ℕ) (p w : ℕ) → w ≤ 32 → field f p w < 2 ^ 32
-field_fits f p w h =
-    let s = field_small f p w in
-    let m : 2 ^ w ≤ 2 ^ 32 = pow_mono {i = w} {j = 32} h in
-    omega arith
-
 pub taken : (f : List ℕ) (p w v : ℕ) → p + w ≤ 8 * length f → v ≡ field f p w → next v (p + w) ≡ take w f p
 taken f p w v h e = rw (le-leb (p + w) (8 * length f) h, take) (ap (λ n. next n (p + w)) e)
 

@@ -4,8 +4,8 @@ ghost use Rattle.definitions.specs.Bits.{bits as bits_of};
 ghost use Rattle.bits.specs.Put.{overwritten, room as has_room, closed as padded_out};
 
 /// A field does not fit: the slice ends before it does, or the value is too large for the width.
-#[derive(Clone, Copy)]
-pub struct Full {}
+#[derive(Clone, Copy, PartialEq, Eq, Debug)]
+pub struct Full;
 
 /// Puts a value into the `count` bits from `at` on, which lie in the same byte.
 fn put_part(bytes: &mut [u8], at: usize, value: u32, count: u32)
@@ -53,14 +53,14 @@ impl<'a> BitWriter<'a> {
         ensures named { self.new.bytes.ghost_name ≡ self.old.bytes.ghost_name }
     {
         if self.bytes.len() > 65536 || width > 32 {
-            return Err(Full {});
+            return Err(Full);
         }
         if width < 32 && value >= 1 << width {
-            return Err(Full {});
+            return Err(Full);
         }
         let total = 8 * self.bytes.len();
         if self.at > total || width as usize > total - self.at {
-            return Err(Full {});
+            return Err(Full);
         }
         let at = self.at;
         put_number(self.bytes, at, value, width);
