@@ -85,44 +85,31 @@ fn known_at<G: Algebra>(alg: &G, env: &Environment, view: View, depth: u8) -> Op
     if depth == 0 {
         return None;
     }
-    match read_term(alg, view, depth)? {
+    let term = read_term(alg, view, depth)?;
+    let depth = depth - 1;
+    match term {
         Term::Parameter(n) => *env.parameters.get(n as usize)?,
         Term::Variable(n) => *env.variables.get(n as usize)?,
-        Term::Value { sort: _, value } => Some(value),
+        Term::Value { value, .. } => Some(value),
         Term::Operation { op, arguments } => match arguments {
             Parts::Zero => apply(alg, op, []),
-            Parts::One(a) => {
-                let x = known_at(alg, env, a, depth - 1);
-                apply(alg, op, [x])
-            }
+            Parts::One(a) => apply(alg, op, [known_at(alg, env, a, depth)]),
             Parts::Two(a, b) => {
-                let x = known_at(alg, env, a, depth - 1);
-                let y = known_at(alg, env, b, depth - 1);
+                let x = known_at(alg, env, a, depth);
+                let y = known_at(alg, env, b, depth);
                 apply(alg, op, [x, y])
             }
             Parts::Three(a, b, c) => {
-                let x = known_at(alg, env, a, depth - 1);
-                let y = known_at(alg, env, b, depth - 1);
-                let z = known_at(alg, env, c, depth - 1);
+                let x = known_at(alg, env, a, depth);
+                let y = known_at(alg, env, b, depth);
+                let z = known_at(alg, env, c, depth);
                 apply(alg, op, [x, y, z])
             }
         },
-        Term::Not(a) => opposite(known_at(alg, env, a, depth - 1)),
-        Term::And(a, b) => {
-            let x = known_at(alg, env, a, depth - 1);
-            let y = known_at(alg, env, b, depth - 1);
-            both(x, y)
-        }
-        Term::Or(a, b) => {
-            let x = known_at(alg, env, a, depth - 1);
-            let y = known_at(alg, env, b, depth - 1);
-            either(x, y)
-        }
-        Term::Equal(a, b) => {
-            let x = known_at(alg, env, a, depth - 1);
-            let y = known_at(alg, env, b, depth - 1);
-            alike(x, y)
-        }
+        Term::Not(a) => opposite(known_at(alg, env, a, depth)),
+        Term::And(a, b) => both(known_at(alg, env, a, depth), known_at(alg, env, b, depth)),
+        Term::Or(a, b) => either(known_at(alg, env, a, depth), known_at(alg, env, b, depth)),
+        Term::Equal(a, b) => alike(known_at(alg, env, a, depth), known_at(alg, env, b, depth)),
     }
 }
 

@@ -138,18 +138,15 @@ fn split<'a, G: Algebra>(alg: &G, first: View<'a>, count: u8, depth: u8) -> Opti
     ensures reads { bind result (parts_of (G.meaning alg.now) depth) ≡ what (row (shape (G.meaning alg.now) depth) count first.entry.bytes.now first.entry.at) }
     ensures within { IfSome result (PartsIn first.entry.bytes.now) }
 {
-    if count == 0 {
-        return Some(Parts::Zero);
+    match count {
+        0 => Some(Parts::Zero),
+        1 => Some(Parts::One(first)),
+        2 => Some(Parts::Two(first, after(alg, first, depth)?)),
+        _ => {
+            let second = after(alg, first, depth)?;
+            Some(Parts::Three(first, second, after(alg, second, depth)?))
+        }
     }
-    if count == 1 {
-        return Some(Parts::One(first));
-    }
-    let second = after(alg, first, depth)?;
-    if count == 2 {
-        return Some(Parts::Two(first, second));
-    }
-    let third = after(alg, second, depth)?;
-    Some(Parts::Three(first, second, third))
 }
 
 /// The term at the view, which has depth at most `depth`, with its parts as views.

@@ -1,4 +1,4 @@
-use Rattle.std.proofs.Common.{◌-◌, refl, subst}
+use Rattle.std.proofs.Common.{◌-◌, subst}
 use Rattle.terms.specs.declared.view.Kind.{Kind}
 use Rattle.terms.specs.declared.view.Kind.TheVariants.{Operation}
 use Rattle.terms.specs.Shown.{parts_of, Apt}
@@ -16,4 +16,4 @@ returns-in_ok-arguments-in-Operation-clause-reads g c =
     let a = g.G.Algebra.meaning c.args.alg.now in
     let d = c.args.depth in
     let h = c.in_ok-kind.field-0 in
-    arm a c.args.view.bytes.now d c.args.view.at c.if-depth-eq0.false h c.in_ok-kind.ensures.reads (Operation c.in-Operation.op) c.in-Operation.is h.parts refl (parts_of a (d - 1) c.in_ok-arguments-in-Operation.arguments) c.in_ok-arguments-in-Operation.ensures.reads
+    arm a c.args.view.bytes.now d c.args.view.at c.if-depth-eq0.false h c.in_ok-kind.ensures.reads (Operation c.in-Operation.op) c.in-Operation.is (parts_of a (d - 1) c.in_ok-arguments-in-Operation.arguments) c.in_ok-arguments-in-Operation.ensures.reads
