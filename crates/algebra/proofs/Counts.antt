@@ -4,8 +4,7 @@ use Rattle.definitions.specs.Lists.{at, bind, flat, map_from}
 use Rattle.definitions.specs.Alg.{Op, within, sized}
 use Rattle.definitions.specs.Algebras.{first, second, truth, counts, counting}
 use Rattle.algebra.specs.Runs.{runs}
-use native.Mathlib.Nat.{mod_self}
-use Rattle.algebra.specs.Lists.{at_in, at_over, at_lt, at_none, at_get_or}
+use Rattle.algebra.specs.Lists.{none_some, some_inj, at_in, at_over, at_lt, at_none, at_get_or}
 
 -- each sort has four operations
 four : (k : ℕ) (ns : List ℕ) (o : ℕ) → at (flat (map_from k counts ns)) o ≡ bind (at (map_from k counts ns) (o / 4)) (λ (l : List Op). at l (o % 4))
@@ -62,30 +61,25 @@ module _ (ns : List ℕ) (o : ℕ) (h : o / 4 < length ns) where
   pub result_own : (o % 4 ≡ 3 → ⊥) → Some (o / 4 + 1) ≡ (counting ns).res_sort o
   result_own ne = sym (three (λ (q : Op). Some q.res) (Some (o / 4 + 1)) ne (λ v. refl))
 
-  pub arg_first : (k : ℕ) → k ≡ 0 → Some (o / 4 + 1) ≡ (counting ns).arg_sort o k
-  arg_first k z = go (o % 4) refl ∙ ap ((counting ns).arg_sort o) (sym z)
-    where
-      go : (w : ℕ) → o % 4 ≡ w → Some (o / 4 + 1) ≡ (counting ns).arg_sort o 0
-      go zero e = sym (ask (λ (q : Op). at q.args 0) 0 e)
-      go (suc zero) e = sym (ask (λ (q : Op). at q.args 0) 1 e)
-      go (suc (suc zero)) e = sym (ask (λ (q : Op). at q.args 0) 2 e)
-      go (suc (suc (suc zero))) e = sym (ask (λ (q : Op). at q.args 0) 3 e)
-      go (suc (suc (suc (suc w)))) e = absurd (omega arith)
+  one : (k : ℕ) → k < 1 → Some (o / 4 + 1) ≡ at ((o / 4 + 1) ∷ []) k
+  one zero l = refl
+  one (suc k) l = absurd (omega arith)
 
-  pub arg_second : (k : ℕ) → k ≡ 1 → o % 4 ≡ 3 → Some (o / 4 + 1) ≡ (counting ns).arg_sort o k
-  arg_second k z e = sym (ask (λ (q : Op). at q.args 1) 3 e) ∙ ap ((counting ns).arg_sort o) (sym z)
+  both : (k : ℕ) → k < 2 → Some (o / 4 + 1) ≡ at ((o / 4 + 1) ∷ (o / 4 + 1) ∷ []) k
+  both zero l = refl
+  both (suc zero) l = refl
+  both (suc (suc k)) l = absurd (omega arith)
 
-  pub arg_none : (k : ℕ) → (k ≡ 0 → ⊥) → (k ≡ 1 → o % 4 ≡ 3 → ⊥) → None ≡ (counting ns).arg_sort o k
-  arg_none zero z ne = absurd (z refl)
-  arg_none (suc zero) z ne = sym (three (λ (q : Op). at q.args 1) None (ne refl) (λ v. refl))
-  arg_none (suc (suc k)) z ne = go (o % 4) refl
+  -- all arguments are of the operation's own sort
+  pub arg_own : (m k : ℕ) → Some m ≡ (counting ns).arity o → k < m → Some (o / 4 + 1) ≡ (counting ns).arg_sort o k
+  arg_own m k e l = go (o % 4) refl
     where
-      go : (w : ℕ) → o % 4 ≡ w → None ≡ (counting ns).arg_sort o (suc (suc k))
-      go zero e = sym (ask (λ (q : Op). at q.args (suc (suc k))) 0 e)
-      go (suc zero) e = sym (ask (λ (q : Op). at q.args (suc (suc k))) 1 e)
-      go (suc (suc zero)) e = sym (ask (λ (q : Op). at q.args (suc (suc k))) 2 e)
-      go (suc (suc (suc zero))) e = sym (ask (λ (q : Op). at q.args (suc (suc k))) 3 e)
-      go (suc (suc (suc (suc w)))) e = absurd (omega arith)
+      go : (w : ℕ) → o % 4 ≡ w → Some (o / 4 + 1) ≡ (counting ns).arg_sort o k
+      go zero d = let i : m ≡ 1 = some_inj m 1 (e ∙ ask (λ (q : Op). Some (length q.args)) 0 d) in one k (omega arith) ∙ sym (ask (λ (q : Op). at q.args k) 0 d)
+      go (suc zero) d = let i : m ≡ 1 = some_inj m 1 (e ∙ ask (λ (q : Op). Some (length q.args)) 1 d) in one k (omega arith) ∙ sym (ask (λ (q : Op). at q.args k) 1 d)
+      go (suc (suc zero)) d = let i : m ≡ 1 = some_inj m 1 (e ∙ ask (λ (q : Op). Some (length q.args)) 2 d) in one k (omega arith) ∙ sym (ask (λ (q : Op). at q.args k) 2 d)
+      go (suc (suc (suc zero))) d = let i : m ≡ 2 = some_inj m 2 (e ∙ ask (λ (q : Op). Some (length q.args)) 3 d) in both k (omega arith) ∙ sym (ask (λ (q : Op). at q.args k) 3 d)
+      go (suc (suc (suc (suc w)))) d = absurd (omega arith)
 
   pub value_in : (xs : List ℕ) → (counting ns).value o xs ≡ runs (get_or ns (o / 4) 0) (o % 4) xs
   value_in xs = go (o % 4) refl
@@ -106,20 +100,25 @@ module _ (ns : List ℕ) (o : ℕ) (h : o / 4 < length ns) where
       go (suc (suc (suc zero))) e = ask g 3 e ∙ ap (λ m. elim (within (m ∷ m ∷ []) xs) [ true ↦ Some (truth (ltb (first xs) (second xs))) | false ↦ None ]) e₁
       go (suc (suc (suc (suc w)))) e = absurd (omega arith)
 
-pub none_at : {X : Type 0} (ns : List ℕ) (o : ℕ) (g : Op → Option X) → length ns ≤ o / 4 → None ≡ bind (at (flat (map_from 1 counts ns)) o) g
-none_at ns o g h = sym (ap (λ z. bind z g) (no_operation ns o h))
+pub none_at : {X : Type 0} (ns : List ℕ) (o : ℕ) (g : Op → Option X) → None ≡ at ns (o / 4) → None ≡ bind (at (flat (map_from 1 counts ns)) o) g
+none_at ns o g e = sym (ap (λ z. bind z g) (no_operation ns o (at_none ns (o / 4) (sym e))))
+
+-- an operation that has an arity counts in a sort
+pub arity_in : (ns : List ℕ) (o m : ℕ) → Some m ≡ (counting ns).arity o → o / 4 < length ns
+arity_in ns o m e = go (at ns (o / 4)) refl
+  where
+    go : (z : Option ℕ) → at ns (o / 4) ≡ z → o / 4 < length ns
+    go None i = none_some m (none_at ns o (λ (q : Op). Some (length q.args)) (sym i) ∙ sym e)
+    go (Some n) i = at_lt ns (o / 4) n i
 
 pub value_none : (ns : List ℕ) (o : ℕ) (xs : List ℕ) → None ≡ at ns (o / 4) → None ≡ (counting ns).value o xs
-value_none ns o xs e = none_at ns o (λ (q : Op). elim (within (sized (2 ∷ ns) q.args) xs) [ true ↦ Some (q.run xs) | false ↦ None ]) (at_none ns (o / 4) (sym e))
+value_none ns o xs = none_at ns o (λ (q : Op). elim (within (sized (2 ∷ ns) q.args) xs) [ true ↦ Some (q.run xs) | false ↦ None ])
 
 pub value_some : (ns : List ℕ) (o n : ℕ) (xs : List ℕ) (r : Option ℕ) → Some n ≡ at ns (o / 4) → r ≡ runs n (o % 4) xs → r ≡ (counting ns).value o xs
 value_some ns o n xs r e h = h ∙ ap (λ m. runs m (o % 4) xs) (sym (at_get_or ns (o / 4) n (sym e))) ∙ sym (value_in ns o (at_lt ns (o / 4) n (sym e)) xs)
 
 run_next : (n : ℕ) (xs : List ℕ) → within (n ∷ []) xs ≡ true → runs n 2 xs ≡ Some ((first xs + 1) % n)
 run_next n xs w = ap (λ (b : Bool). elim b [ true ↦ Some ((first xs + 1) % n) | false ↦ None ]) w
-
-pub next_top : (n a : ℕ) (xs : List ℕ) → within (n ∷ []) xs ≡ true → get_or xs 0 0 ≡ a → a + 1 ≡ n → Some 0 ≡ runs n 2 xs
-next_top n a xs w e h = sym (run_next n xs w ∙ ap (λ m. Some ((m + 1) % n)) e ∙ ap (λ m. Some (m % n)) h ∙ ap Some (mod_self n))
 
 pub next_on : (n a : ℕ) (xs : List ℕ) → within (n ∷ []) xs ≡ true → get_or xs 0 0 ≡ a → a + 1 < n → Some (a + 1) ≡ runs n 2 xs
 next_on n a xs w e h = sym (run_next n xs w ∙ ap (λ m. Some ((m + 1) % n)) e ∙ ap Some (mod-eq_of_lt h))

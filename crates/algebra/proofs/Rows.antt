@@ -1,59 +1,14 @@
--- Readers in a row, with what was read before, and what they leave of their values.
+-- What readers, also in a row, leave of their values, and that they go forward.
 use Rattle.std.proofs.Common.{◌≡◌, ℕ, zero, suc, ◌+◌, ◌-◌, ◌*◌, ◌<◌, ◌≤◌, Bool, true, false, ltb, leb, List, [], ◌∷◌, ◌++◌, length, IsErrAnd, IfOk, Some, None, Ok, Err, Option, Result, sym, refl, ap, ◌∙◌, subst, arith}
 use Rattle.std.proofs.lemmas.Bool.{leb-true}
 use Rattle.faults.specs.declared.Reason.{Reason}
 use Rattle.faults.specs.declared.Reason.TheVariants.{EndsInField}
-use Rattle.faults.specs.declared.TableFault.{TableFault}
+use Rattle.faults.specs.declared.Stop.{Stop}
+use Rattle.bits.specs.Told.{told}
 use Rattle.definitions.specs.Bits.{field}
 use Rattle.definitions.specs.Lists.{each}
 use Rattle.definitions.specs.Reading.{Step, next, stop, Reader, follow, given, take, take_for, below, repeated}
 use Rattle.algebra.specs.Lists.{some_inj, none_some}
-
--- what was read before, and the rest
-abbrev pub before : {X : Type 0} → List X → Step (List X) → Step (List X)
-before xs (next ys q) = next (xs ++ ys) q
-before xs (stop r q) = stop r q
-
-snoc : {X : Type 0} (xs : List X) (x : X) (ys : List X) → xs ++ (x ∷ ys) ≡ (xs ++ (x ∷ [])) ++ ys
-snoc [] x ys = refl
-snoc (y ∷ xs) x ys = ap (λ zs. y ∷ zs) (snoc xs x ys)
-
-snoc_at : {X : Type 0} (xs : List X) (x : X) (m : Step (List X)) → before xs (follow m (λ ys q. next (x ∷ ys) q)) ≡ before (xs ++ (x ∷ [])) m
-snoc_at xs x (next ys q) = ap (λ zs. next zs q) (snoc xs x ys)
-snoc_at xs x (stop r q) = refl
-
-pub begin : {X : Type 0} (m : Step (List X)) → m ≡ before [] m
-begin (next ys q) = refl
-begin (stop r q) = refl
-
-nil : {X : Type 0} (xs : List X) → xs ++ [] ≡ xs
-nil [] = refl
-nil (x ∷ xs) = ap (λ ys. x ∷ ys) (nil xs)
-
-module _ {X : Type 0} (f : List ℕ) (r : Reader X) where
-  pub fill_next : (xs zs : List X) (n i p q : ℕ) (x : X) → i < n → next x q ≡ r f p → xs ++ (x ∷ []) ≡ zs → before xs (repeated r (n - i) f p) ≡ before zs (repeated r (n - (i + 1)) f q)
-  fill_next xs zs n i p q x h e k = go (n - i) (n - (i + 1)) (omega arith)
-    where
-      go : (u v : ℕ) → u ≡ v + 1 → before xs (repeated r u f p) ≡ before zs (repeated r v f q)
-      go zero v l = absurd (omega arith)
-      go (suc u) v l =
-          let j : u ≡ v = omega arith in
-          ap (λ m. before xs (follow m (λ y t. follow (repeated r u f t) (λ ys w. next (y ∷ ys) w)))) (sym e) ∙ snoc_at xs x (repeated r u f q) ∙ ap (λ w. before w (repeated r u f q)) k ∙ ap (λ w. before zs (repeated r w f q)) j
-
-  pub fill_stop : (xs : List X) (n i p : ℕ) (s : Reason) (t : ℕ) → i < n → stop s t ≡ r f p → before xs (repeated r (n - i) f p) ≡ stop s t
-  fill_stop xs n i p s t h e = go (n - i) (omega arith)
-    where
-      go : (u : ℕ) → 0 < u → before xs (repeated r u f p) ≡ stop s t
-      go zero l = absurd (omega arith)
-      go (suc u) l = ap (λ m. before xs (follow m (λ y t. follow (repeated r u f t) (λ ys w. next (y ∷ ys) w)))) (sym e)
-
-  pub fill_end : (xs : List X) (n i p : ℕ) → n ≡ i → before xs (repeated r (n - i) f p) ≡ next xs p
-  fill_end xs n i p h = let e : n - i ≡ 0 = omega arith in ap (λ w. before xs (repeated r w f p)) e ∙ ap (λ ys. next ys p) (nil xs)
-
--- what `?` hands on
-pub passed : {T : Type 0} (r : Result T TableFault) (e : TableFault) → IsErrAnd r (λ y. y ≡ e) → r ≡ Err e
-passed (Ok x) e h = absurd h
-passed (Err y) e h = ap Err h
 
 -- a field that was accepted
 pub for_inv : {X : Type 0} (w : ℕ) (what : ℕ → Option X) (r : Reason) (f : List ℕ) (p : ℕ) (x : X) (q : ℕ) → next x q ≡ take_for w what r f p →
@@ -96,10 +51,6 @@ module _ {X : Type 0} (f : List ℕ) (r : Reader X) (p : X → Bool) (holds : (a
       first (next y t) l ih e = rest y (holds at y t (sym l)) (repeated r n f t) (ih t) e
       first (stop s t) l ih e = let z : ◌≡◌ {A = ℕ} 0 1 = cc in absurd (omega arith)
 
-pub broken : {T : Type 0} (r : Result T TableFault) (e : TableFault) (P : T → Type 0) → IsErrAnd r (λ y. y ≡ e) → IfOk r P
-broken (Ok x) e P h = absurd h
-broken (Err y) e P h = tt
-
 pub take_inv : (w : ℕ) (f : List ℕ) (p v q : ℕ) → next v q ≡ take w f p → (q ≡ p + w) × (p + w ≤ 8 * length f)
 take_inv w f p v q e = go (leb (p + w) (8 * length f)) refl e
   where
@@ -134,3 +85,8 @@ module _ (w n : ℕ) (reason : Reason) (f : List ℕ) where
 
   pub row_below_on : (k p : ℕ) (xs : List ℕ) (q : ℕ) → next xs q ≡ repeated (take_for w (below n) reason) k f p → p ≤ q
   row_below_on = row_on f (take_for w (below n) reason) for_on
+
+-- what follows a reader that stopped
+pub follow_stop : {T X Y : Type 0} (what : T → X) (also : T → Y) (k : X → ℕ → Step Y) (q : ℕ) (m : Step X) (res : Result T Stop) (e : Stop) → IsErrAnd res (λ y. y ≡ e) → told what q res ≡ m → told also q res ≡ follow m k
+follow_stop what also k q m (Ok x) e h t = absurd h
+follow_stop what also k q m (Err y) e h t = ap (λ s. follow s k) t

@@ -70,13 +70,12 @@ op_sound_lem sizes f p o q e =
     (and_from (each (λ s. ltb s m) args) (ltb res m && each (λ v. ltb v (get_or sizes res 0)) vs) a.0
     (and_from (ltb res m) (each (λ v. ltb v (get_or sizes res 0)) vs) (for_below 4 m NoSuchSort f u res v last) b.0)))
 
--- a file that stops among its operations
-pub table_stop : (f zs : List ℕ) (p n q : ℕ) (r : Reason) (t : ℕ) → (length f ≡ 0 → ⊥) → length f ≤ 16384 → next zs p ≡ read_sizes f 0 → next n q ≡ take 6 f p → stop r t ≡ repeated (read_op zs) n f q →
-    table_reading f ≡ bad r t
-table_stop f zs p n q r t h l e₁ e₂ e₃ =
-    let rest : Step Table → Step Table = λ m. follow m (λ x u. follow (ending f u) (λ _ v. next x v)) in
-    let long : (eqb (length f) 0 || ltb 16384 (length f)) ≡ false = or_from (eqb (length f) 0) (ltb 16384 (length f)) (ne_eqb (length f) 0 h) (le-ltb 16384 (length f) l) in
-    ap (λ (b : Bool). elim b [ true ↦ bad BadLength 0 | false ↦ ended (complete read_table f 0) ]) long ∙
-    ap (λ m. ended (rest (follow m (λ zs t. follow (take 6 f t) (λ n u. follow (repeated (read_op zs) n f u) (λ os v. next (record { sizes = zs; ops = os }) v)))))) (sym e₁) ∙
-    ap (λ m. ended (rest (follow m (λ n u. follow (repeated (read_op zs) n f u) (λ os v. next (record { sizes = zs; ops = os }) v))))) (sym e₂) ∙
-    ap (λ m. ended (rest (follow m (λ os v. next (record { sizes = zs; ops = os }) v)))) (sym e₃)
+-- an operation is read part by part
+pub op_read : (sizes f : List ℕ) (p p₁ p₂ p₃ p₄ n res : ℕ) (args vs : List ℕ) → next n p₁ ≡ take 2 f p → next args p₂ ≡ repeated (read_sort sizes) n f p₁ → next res p₃ ≡ read_sort sizes f p₂ →
+    next vs p₄ ≡ repeated (take_for 8 (below (get_or sizes res 0)) ValueTooLarge) (product (sized sizes args)) f p₃ → ◌≡◌ {A = Step TableOp} (next (record { args = args; res = res; values = vs }) p₄) (read_op sizes f p)
+op_read sizes f p p₁ p₂ p₃ p₄ n res args vs e₁ e₂ e₃ e₄ =
+    let vals : ℕ → List ℕ → Reader (List ℕ) = λ res args. repeated (take_for 8 (below (get_or sizes res 0)) ValueTooLarge) (product (sized sizes args)) in
+    sym (ap (λ m. follow m (λ n t. follow (repeated (read_sort sizes) n f t) (λ args u. follow (read_sort sizes f u) (λ res v. follow (vals res args f v) (λ vs w. next (record { args = args; res = res; values = vs }) w))))) (sym e₁) ∙
+    ap (λ m. follow m (λ args u. follow (read_sort sizes f u) (λ res v. follow (vals res args f v) (λ vs w. next (record { args = args; res = res; values = vs }) w)))) (sym e₂) ∙
+    ap (λ m. follow m (λ res v. follow (vals res args f v) (λ vs w. next (record { args = args; res = res; values = vs }) w))) (sym e₃) ∙
+    ap (λ m. follow m (λ vs w. next (record { args = args; res = res; values = vs }) w)) (sym e₄))

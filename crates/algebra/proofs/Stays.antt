@@ -1,9 +1,10 @@
 -- The values of operations that were read, among all, stay as more are read.
-use Rattle.std.proofs.Common.{◌≡◌, ℕ, zero, suc, ◌+◌, ◌<◌, ◌≤◌, Bool, true, false, leb, List, [], ◌∷◌, ◌++◌, map, length, take, drop, set, sym, refl, ap, ◌∙◌, ap₂, add-one, arith, take-take, take-suc-set}
+use Rattle.std.proofs.Common.{◌≡◌, ℕ, zero, suc, ◌+◌, ◌≤◌, Bool, true, false, leb, List, [], ◌∷◌, ◌++◌, map, length, take, drop, sym, refl, ap, ◌∙◌, ap₂, arith, take-take}
+use Rattle.std.proofs.Math.Seq.{take-length}
 use Rattle.std.proofs.lemmas.Bool.{leb-true, le-leb}
 use Rattle.definitions.specs.Lists.{each}
 use Rattle.definitions.specs.Tables.{TableOp}
-use Rattle.algebra.specs.Kept.{args_of, values_of, kept_op}
+use Rattle.algebra.specs.Kept.{args_of, values_of, kept_op, roomy}
 use Rattle.algebra.specs.declared.table.operation.Operation.{Operation}
 use Rattle.algebra.specs.Lists.{each_cons}
 
@@ -13,27 +14,10 @@ part_front (suc off) m zero vs h = absurd (omega arith)
 part_front (suc off) m (suc n) [] h = refl
 part_front (suc off) m (suc n) (v ∷ vs) h = part_front off m n vs (omega arith)
 
-part_same : (off m n : ℕ) (vs ws : List ℕ) → off + m ≤ n → take n ws ≡ take n vs → take m (drop off ws) ≡ take m (drop off vs)
-part_same off m n vs ws h e = part_front off m n ws h ∙ ap (λ l. take m (drop off l)) e ∙ sym (part_front off m n vs h)
-
--- the values of each lie before the place n
-abbrev pub ends : List ℕ → ℕ → List Operation → Bool
-ends sizes n os = each (λ o. leb (o.offset + values_of sizes o) n) os
-
-kept_same : (sizes vs ws : List ℕ) (n : ℕ) → take n ws ≡ take n vs → (os : List Operation) → ends sizes n os ≡ true → map (kept_op sizes ws) os ≡ map (kept_op sizes vs) os
-kept_same sizes vs ws n e [] h = refl
-kept_same sizes vs ws n e (o ∷ os) h =
-    let p = each_cons (λ o. leb (o.offset + values_of sizes o) n) o os h in
-    let l = leb-true (o.offset + values_of sizes o) n p.0 in
-    ap₂ (λ (q : TableOp) (qs : List TableOp). q ∷ qs) (ap (λ (l : List ℕ). record { args = args_of o; res = o.result; values = l }) (part_same o.offset (values_of sizes o) n vs ws l e)) (kept_same sizes vs ws n e os p.1)
-
-pub ends_more : (sizes : List ℕ) (n m : ℕ) → n ≤ m → (os : List Operation) → ends sizes n os ≡ true → ends sizes m os ≡ true
-ends_more sizes n m l [] h = refl
-ends_more sizes n m l (o ∷ os) h =
-    let p = each_cons (λ o. leb (o.offset + values_of sizes o) n) o os h in
-    let i = leb-true (o.offset + values_of sizes o) n p.0 in
-    let j : o.offset + values_of sizes o ≤ m = omega arith in
-    ap (λ (b : Bool). elim b [ true ↦ ends sizes m os | false ↦ false ]) (le-leb (o.offset + values_of sizes o) m j) ∙ ends_more sizes n m l os p.1
+front_short : (n : ℕ) (l : List ℕ) → length (take n l) ≤ length l
+front_short zero l = omega arith
+front_short (suc n) [] = omega arith
+front_short (suc n) (x ∷ l) = let h : length (take n l) ≤ length l = front_short n l in omega arith
 
 each_last : {A : Type 0} (p : A → Bool) (l : List A) (x : A) → each p l ≡ true → p x ≡ true → each p (l ++ (x ∷ [])) ≡ true
 each_last p [] x h e = ap (λ (b : Bool). elim b [ true ↦ true | false ↦ false ]) e
@@ -43,13 +27,36 @@ map_last : {A B : Type 0} (g : A → B) (l : List A) (x : A) → map g (l ++ (x 
 map_last g [] x = refl
 map_last g (y ∷ l) x = ap (λ zs. g y ∷ zs) (map_last g l x)
 
--- one operation more
-module _ (sizes vs ws : List ℕ) (os : List Operation) (i n m : ℕ) (o : Operation) (hi : i < length os) (before : ends sizes n (take i os) ≡ true) (same : take n ws ≡ take n vs) where
-  pub ops_next : map (kept_op sizes vs) (take i os) ++ (kept_op sizes ws o ∷ []) ≡ map (kept_op sizes ws) (take (i + 1) (set os i o))
-  ops_next =
-      rw add-one (ap (λ qs. qs ++ (kept_op sizes ws o ∷ [])) (sym (kept_same sizes vs ws n same (take i os) before)) ∙ sym (map_last (kept_op sizes ws) (take i os) o) ∙ ap (map (kept_op sizes ws)) (sym (take-suc-set os i o hi)))
+-- the values vs are those that ws begins with
+pub longer : (vs ws : List ℕ) → take (length vs) ws ≡ vs → length vs ≤ length ws
+longer vs ws same = let e : length (take (length vs) ws) ≡ length vs = ap (λ (l : List ℕ). length l) same in let h : length (take (length vs) ws) ≤ length ws = front_short (length vs) ws in omega arith
 
-  pub ends_next : n ≤ m → o.offset + values_of sizes o ≤ m → ends sizes m (take (i + 1) (set os i o)) ≡ true
-  ends_next l h =
-      let p : Operation → Bool = λ o. leb (o.offset + values_of sizes o) m in
-      rw add-one (ap (each p) (take-suc-set os i o hi) ∙ each_last p (take i os) o (ends_more sizes n m l (take i os) before) (le-leb (o.offset + values_of sizes o) m h))
+-- all values from a place on
+pub all_from : (m off n : ℕ) (ws : List ℕ) → off ≡ n → length (drop n ws) ≡ m → take m (drop off ws) ≡ drop n ws
+all_from m off n ws e h = ap₂ (λ (o k : ℕ). take k (drop o ws)) e (sym h) ∙ take-length (drop n ws)
+
+module _ (sizes vs ws : List ℕ) (same : take (length vs) ws ≡ vs) where
+  kept_same : (os : List Operation) → roomy sizes vs os ≡ true → map (kept_op sizes ws) os ≡ map (kept_op sizes vs) os
+  kept_same [] h = refl
+  kept_same (o ∷ os) h =
+      let p = each_cons (λ o. leb (o.offset + values_of sizes o) (length vs)) o os h in
+      let l = leb-true (o.offset + values_of sizes o) (length vs) p.0 in
+      let e = part_front o.offset (values_of sizes o) (length vs) ws l ∙ ap (λ l. take (values_of sizes o) (drop o.offset l)) same in
+      ap₂ (λ (q : TableOp) (qs : List TableOp). q ∷ qs) (ap (λ (l : List ℕ). record { args = args_of o; res = o.result; values = l }) e) (kept_same os p.1)
+
+  roomy_more : (os : List Operation) → roomy sizes vs os ≡ true → roomy sizes ws os ≡ true
+  roomy_more [] h = refl
+  roomy_more (o ∷ os) h =
+      let p = each_cons (λ o. leb (o.offset + values_of sizes o) (length vs)) o os h in
+      let i = leb-true (o.offset + values_of sizes o) (length vs) p.0 in
+      let l = longer vs ws same in
+      let j : o.offset + values_of sizes o ≤ length ws = omega arith in
+      ap (λ (b : Bool). elim b [ true ↦ roomy sizes ws os | false ↦ false ]) (le-leb (o.offset + values_of sizes o) (length ws) j) ∙ roomy_more os p.1
+
+  -- one operation more
+  module _ (os : List Operation) (o : Operation) (room : roomy sizes vs os ≡ true) where
+    pub ops_next : map (kept_op sizes vs) os ++ (kept_op sizes ws o ∷ []) ≡ map (kept_op sizes ws) (os ++ (o ∷ []))
+    ops_next = ap (λ qs. qs ++ (kept_op sizes ws o ∷ [])) (sym (kept_same os room)) ∙ sym (map_last (kept_op sizes ws) os o)
+
+    pub roomy_next : o.offset + values_of sizes o ≤ length ws → roomy sizes ws (os ++ (o ∷ [])) ≡ true
+    roomy_next h = each_last (λ o. leb (o.offset + values_of sizes o) (length ws)) os o (roomy_more os room) (le-leb (o.offset + values_of sizes o) (length ws) h)

@@ -1,5 +1,6 @@
 -- What a table as kept means: the table of the grammar.
 use Rattle.std.specs.Prelude.{ℕ, ◌+◌, Bool, ◌&&◌, ltb, leb, List, map, length, take, drop, ◌==◌, nat_le, nat_lt, slice_index}
+use Rattle.rows.specs.Listed.{listed}
 use Rattle.definitions.specs.Lists.{each, product}
 use Rattle.definitions.specs.Alg.{sized}
 use Rattle.definitions.specs.Tables.{TableOp, Table}
@@ -8,7 +9,7 @@ use Rattle.algebra.specs.declared.table.operation.Operation.{Operation}
 
 -- the sorts of the arguments
 abbrev pub args_of : Operation → List ℕ
-args_of o = take o.arity o.sorts
+args_of o = listed o.sorts
 
 -- how many values it has
 abbrev pub values_of : List ℕ → Operation → ℕ
@@ -17,13 +18,13 @@ values_of sizes o = product (sized sizes (args_of o))
 abbrev pub kept_op : List ℕ → List ℕ → Operation → TableOp
 kept_op sizes values o = record { args = args_of o; res = o.result; values = take (values_of sizes o) (drop o.offset values) }
 
--- n sizes, and m operations with their values among all
-abbrev pub kept : ℕ → List ℕ → ℕ → List Operation → List ℕ → Table
-kept n sizes m os values = record { sizes = take n sizes; ops = map (kept_op (take n sizes) values) (take m os) }
+-- sizes, and operations with their values among all
+abbrev pub kept : List ℕ → List Operation → List ℕ → Table
+kept sizes os values = record { sizes = sizes; ops = map (kept_op sizes values) os }
 
 -- the values of each operation lie among all
-abbrev pub roomy : List ℕ → List Operation → Bool
-roomy sizes os = each (λ o. leb (o.offset + values_of sizes o) 16384) os
+abbrev pub roomy : List ℕ → List ℕ → List Operation → Bool
+roomy sizes values os = each (λ o. leb (o.offset + values_of sizes o) (length values)) os
 
 -- an operation keeps to the sorts and their sizes
 abbrev pub op_sound : List ℕ → TableOp → Bool

@@ -1,5 +1,6 @@
 -- Facts of lists, options and tests.
 use Rattle.std.specs.Prelude.{◌≡◌, ℕ, zero, suc, ◌+◌, ◌<◌, ◌≤◌, Bool, true, false, ◌&&◌, List, [], ◌∷◌, ◌++◌, map, length, take, drop, Some, None, Option, slice_index, slice_index_or, refl}
+use Rattle.std.specs.List.{list_all}
 use Rattle.std.proofs.Common.{sym, ◌∙◌, ap, subst, arith, add-one, drop-cons}
 use Rattle.std.proofs.lemmas.Bool.{false≢true}
 use Rattle.definitions.specs.Lists.{at, bind, each}
@@ -74,19 +75,6 @@ pub every_each : {A : Type 0} (p : A → Bool) (P : A → Type 0) → ((x : A) �
 every_each p P f [] h = tt
 every_each p P f (x ∷ l) h = let e = each_cons p x l h in (f x e.0, every_each p P f l e.1)
 
--- members of the front of a list
-pub front_in : {A : Type 0} (n : ℕ) (l : List A) (i : ℕ) (d : A) → n ≤ length l → i < n → at (take n l) i ≡ Some (slice_index_or l i d)
-front_in zero l i d h k = absurd (omega arith)
-front_in (suc n) [] i d h k = absurd (omega arith)
-front_in (suc n) (x ∷ l) zero d h k = refl
-front_in (suc n) (x ∷ l) (suc i) d h k = front_in n l i d (omega arith) (omega arith)
-
-pub front_out : {A : Type 0} (n : ℕ) (l : List A) (i : ℕ) → n ≤ i → at (take n l) i ≡ None
-front_out zero l i h = refl
-front_out (suc n) [] i h = refl
-front_out (suc n) (x ∷ l) zero h = absurd (omega arith)
-front_out (suc n) (x ∷ l) (suc i) h = front_out n l i (omega arith)
-
 pub front_long : {A : Type 0} (n : ℕ) (l : List A) → length (take n l) ≤ n
 front_long zero l = omega arith
 front_long (suc n) [] = omega arith
@@ -97,15 +85,11 @@ at_none [] j e = omega arith
 at_none (y ∷ l) zero e = none_some y (sym e)
 at_none (y ∷ l) (suc j) e = let h : length l ≤ j = at_none l j e in omega arith
 
--- a test of each member, one more
-pub each_step : (p : ℕ → Bool) (l : List ℕ) (i : ℕ) → i < length l → p (slice_index l i) ≡ true → each p (drop i l) ≡ each p (drop (i + 1) l)
-each_step p l i h e = rw (add-one) (ap (each p) (drop-cons l i 0 h) ∙ ap (λ (b : Bool). elim b [ true ↦ each p (drop (suc i) l) | false ↦ false ]) e)
-
-pub each_stop : (p : ℕ → Bool) (l : List ℕ) (i : ℕ) → i < length l → p (slice_index l i) ≡ false → each p (drop i l) ≡ false
-each_stop p l i h e = ap (each p) (drop-cons l i 0 h) ∙ ap (λ (b : Bool). elim b [ true ↦ each p (drop (suc i) l) | false ↦ false ]) e
-
-pub each_end : (p : ℕ → Bool) (l : List ℕ) (i : ℕ) → length l ≤ i → each p (drop i l) ≡ true
-each_end p [] zero h = refl
-each_end p [] (suc i) h = refl
-each_end p (x ∷ l) zero h = absurd (omega arith)
-each_end p (x ∷ l) (suc i) h = each_end p l i (omega arith)
+-- the test of each member as the library says it
+pub each_all : {A : Type 0} (p : A → Bool) (l : List A) → list_all p l ≡ each p l
+each_all p [] = refl
+each_all p (x ∷ l) = go (p x) (list_all p l) (each p l) (each_all p l)
+  where
+    go : (b c d : Bool) → c ≡ d → (b && c) ≡ elim b [ true ↦ d | false ↦ false ]
+    go true c d e = e
+    go false c d e = refl

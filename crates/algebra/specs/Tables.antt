@@ -1,6 +1,6 @@
 -- The table algebra: lawful where it is sound, and its answers.
-use Rattle.std.specs.Prelude.{◌≡◌, ℕ, zero, suc, ◌+◌, ◌-◌, ◌<◌, ◌≤◌, Bool, true, false, ◌&&◌, ltb, leb, List, [], ◌∷◌, map, length, take, Some, None, Option, ◌==◌, nat_le, nat_lt, slice_index, slice_index_or, refl}
-use Rattle.std.proofs.Common.{sym, ◌∙◌, ap, arith, length-take-le}
+use Rattle.std.specs.Prelude.{◌≡◌, ℕ, zero, suc, ◌+◌, ◌*◌, ◌<◌, ◌≤◌, Bool, true, false, ◌&&◌, ltb, leb, List, [], ◌∷◌, map, length, Some, None, Option, ◌==◌, nat_le, nat_lt, slice_index, slice_index_or, refl}
+use Rattle.std.proofs.Common.{sym, ◌∙◌, ap, arith}
 use Rattle.std.proofs.lemmas.List.{length-map}
 use Rattle.std.proofs.lemmas.Bool.{ltb-true, leb-true, eqb-true, and_parts}
 use Rattle.definitions.specs.Lists.{at, bind, each, product}
@@ -11,7 +11,7 @@ use Rattle.algebra.specs.Limits.{size_fits, sizes_fit}
 use Rattle.algebra.specs.Kept.{args_of, values_of, kept_op, kept, roomy, op_sound, sizes_sound, table_sound}
 use Rattle.algebra.specs.declared.table.operation.Operation.{Operation}
 use Rattle.algebra.specs.Places.{place_below, value_at}
-use Rattle.algebra.specs.Lists.{none_some, some_inj, at_in, at_map, every_at, every_each, each_cons}
+use Rattle.algebra.specs.Lists.{none_some, some_inj, front_long, at_in, at_map, every_at, every_each, each_cons}
 use Rattle.algebra.specs.Lawfuls.{OpFits, algebra_lawful}
 
 pub size_fits_lem : (n : ℕ) → size_fits n ≡ true → (1 ≤ n) × (n ≤ 256)
@@ -69,12 +69,6 @@ module _ {X : Type 0} (sizes values : List ℕ) (os : List Operation) (i : ℕ) 
   pub ask_some : (o : Operation) → Some o ≡ at os i → g (tabled sizes (kept_op sizes values o)) ≡ bind (at (map (tabled sizes) (map (kept_op sizes values) os)) i) g
   ask_some o e = ap (λ z. bind z (λ o. g (tabled sizes (kept_op sizes values o)))) e ∙ sym twice
 
-  pub ask_none : None ≡ at os i → None ≡ bind (at (map (tabled sizes) (map (kept_op sizes values) os)) i) g
-  ask_none e = ap (λ z. bind z (λ o. g (tabled sizes (kept_op sizes values o)))) e ∙ sym twice
-
-pub args_long : (o : Operation) → length (args_of o) ≡ o.arity
-args_long o = let h : o.arity ≤ 3 = o.few in let l : length o.sorts ≡ 3 = o.three in length-take-le o.arity o.sorts (omega arith)
-
 each_some : {A B : Type 0} (p : B → Bool) (g : A → B) (l : List A) (i : ℕ) (x : A) → each p (map g l) ≡ true → at l i ≡ Some x → p (g x) ≡ true
 each_some p g [] i x h e = none_some x e
 each_some p g (y ∷ l) zero x h e = ap (λ z. p (g z)) (sym (some_inj y x e)) ∙ (each_cons p (g y) (map g l) h).0
@@ -86,34 +80,39 @@ each_of p (y ∷ l) zero x h e = ap p (sym (some_inj y x e)) ∙ (each_cons p y 
 each_of p (y ∷ l) (suc i) x h e = each_of p l i x (each_cons p y l h).1 e
 
 -- one operation of a sound table
-module _ (n : ℕ) (sizes : List ℕ) (m : ℕ) (os : List Operation) (values : List ℕ) (i : ℕ) (o : Operation) (there : Some o ≡ at (take m os) i) where
-  pub args_known : table_sound (kept n sizes m os values) ≡ true → each (λ s. ltb s (length (take n sizes))) (args_of o) ≡ true
+module _ (sizes : List ℕ) (os : List Operation) (values : List ℕ) (i : ℕ) (o : Operation) (there : Some o ≡ at os i) where
+  pub args_known : table_sound (kept sizes os values) ≡ true → each (λ s. ltb s (length sizes)) (args_of o) ≡ true
   args_known e =
-      let q = kept_op (take n sizes) values o in
-      let p = and_parts (sizes_sound (take n sizes)) (nat_le (length (map (kept_op (take n sizes) values) (take m os))) 63 && each (op_sound (take n sizes)) (map (kept_op (take n sizes) values) (take m os))) e in
-      let r = and_parts (nat_le (length (map (kept_op (take n sizes) values) (take m os))) 63) (each (op_sound (take n sizes)) (map (kept_op (take n sizes) values) (take m os))) p.1 in
-      let s = each_some (op_sound (take n sizes)) (kept_op (take n sizes) values) (take m os) i o r.1 (sym there) in
-      let tail = nat_lt q.res (length (take n sizes)) && each (λ v. ltb v (slice_index (take n sizes) q.res)) q.values in
-      let u = and_parts (nat_le (length q.args) 3) (each (λ s. ltb s (length (take n sizes))) q.args && tail) s in
-      (and_parts (each (λ s. ltb s (length (take n sizes))) q.args) tail u.1).0
+      let q = kept_op sizes values o in
+      let p = and_parts (sizes_sound sizes) (nat_le (length (map (kept_op sizes values) os)) 63 && each (op_sound sizes) (map (kept_op sizes values) os)) e in
+      let r = and_parts (nat_le (length (map (kept_op sizes values) os)) 63) (each (op_sound sizes) (map (kept_op sizes values) os)) p.1 in
+      let s = each_some (op_sound sizes) (kept_op sizes values) os i o r.1 (sym there) in
+      let tail = nat_lt q.res (length sizes) && each (λ v. ltb v (slice_index sizes q.res)) q.values in
+      let u = and_parts (nat_le (length q.args) 3) (each (λ s. ltb s (length sizes)) q.args && tail) s in
+      (and_parts (each (λ s. ltb s (length sizes)) q.args) tail u.1).0
 
-  pub room_for : roomy (take n sizes) (take m os) ≡ true → o.offset + values_of (take n sizes) o ≤ 16384
-  room_for e = leb-true (o.offset + values_of (take n sizes) o) 16384 (each_of (λ o. leb (o.offset + values_of (take n sizes) o) 16384) (take m os) i o e (sym there))
+  room_for : roomy sizes values os ≡ true → o.offset + values_of sizes o ≤ length values
+  room_for e = leb-true (o.offset + values_of sizes o) (length values) (each_of (λ o. leb (o.offset + values_of sizes o) (length values)) os i o e (sym there))
+
+  -- where its value at some arguments lies
+  pub place_fits : roomy sizes values os ≡ true → (xs : List ℕ) (p : ℕ) → within (sized sizes (args_of o)) xs ≡ true → place_of 0 (sized sizes (args_of o)) xs ≡ p → o.offset + p < length values
+  place_fits room xs p w e =
+      let zs = sized sizes (args_of o) in
+      let b : place_of 0 zs xs < (0 + 1) * product zs = place_below 0 zs xs w in
+      let r : o.offset + values_of sizes o ≤ length values = room_for room in
+      omega arith
 
   module _ (xs : List ℕ) where
-    pub value_none : within (sized (take n sizes) (args_of o)) xs ≡ false → None ≡ (table (kept n sizes m os values)).value i xs
+    abbrev g : Op → Option ℕ
+    g q = elim (within (sized sizes q.args) xs) [ true ↦ Some (q.run xs) | false ↦ None ]
+
+    pub value_none : within (sized sizes (args_of o)) xs ≡ false → None ≡ (table (kept sizes os values)).value i xs
     value_none e =
-        sym (ap (λ (b : Bool). elim b [ true ↦ Some ((tabled (take n sizes) (kept_op (take n sizes) values o)).run xs) | false ↦ None ]) e) ∙
-        ask_some (take n sizes) values (take m os) i (λ (q : Op). elim (within (sized (take n sizes) q.args) xs) [ true ↦ Some (q.run xs) | false ↦ None ]) o there
+        sym (ap (λ (b : Bool). elim b [ true ↦ Some ((tabled sizes (kept_op sizes values o)).run xs) | false ↦ None ]) e) ∙ ask_some sizes values os i g o there
 
-    pub value_some : (p : ℕ) → within (sized (take n sizes) (args_of o)) xs ≡ true → place_of 0 (sized (take n sizes) (args_of o)) xs ≡ p → Some (slice_index values (o.offset + p)) ≡ (table (kept n sizes m os values)).value i xs
+    pub value_some : (p : ℕ) → within (sized sizes (args_of o)) xs ≡ true → place_of 0 (sized sizes (args_of o)) xs ≡ p → Some (slice_index values (o.offset + p)) ≡ (table (kept sizes os values)).value i xs
     value_some p w e =
-        let zs = sized (take n sizes) (args_of o) in
+        let zs = sized sizes (args_of o) in
         let b : place_of 0 zs xs < product zs = (let h = place_below 0 zs xs w in omega arith) in
-        ap (λ (k : ℕ). Some (slice_index values (o.offset + k))) (sym e) ∙ ap Some (sym (value_at values o.offset (values_of (take n sizes) o) (place_of 0 zs xs) b)) ∙
-        sym (ap (λ (b : Bool). elim b [ true ↦ Some ((tabled (take n sizes) (kept_op (take n sizes) values o)).run xs) | false ↦ None ]) w) ∙
-        ask_some (take n sizes) values (take m os) i (λ (q : Op). elim (within (sized (take n sizes) q.args) xs) [ true ↦ Some (q.run xs) | false ↦ None ]) o there
-
--- a part from the start
-pub front_part : (n : ℕ) (l : List ℕ) → take (n - 0) l ≡ take n l
-front_part n l = let e : n - 0 ≡ n = omega arith in ap (λ k. take k l) e
+        ap (λ (k : ℕ). Some (slice_index values (o.offset + k))) (sym e) ∙ ap Some (sym (value_at values o.offset (values_of sizes o) (place_of 0 zs xs) b)) ∙
+        sym (ap (λ (b : Bool). elim b [ true ↦ Some ((tabled sizes (kept_op sizes values o)).run xs) | false ↦ None ]) w) ∙ ask_some sizes values os i g o there

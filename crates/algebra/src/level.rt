@@ -92,18 +92,16 @@ impl Algebra for Level {
     }
 
     fn value(&self, op: u8, args: &[u8]) -> Option<u8> {
-        if args.len() != 2 {
+        let [a, b] = *args else {
             return None;
-        }
-        let a = args[0];
-        let b = args[1];
+        };
         if a >= 16 || b >= 16 {
             return None;
         }
         match op {
             0 => Some(sum(a, b)),
             1 => Some(distance(a, b)),
-            2 => Some(if a >= b { 1 } else { 0 }),
+            2 => Some((a >= b) as u8),
             _ => None,
         }
     }

@@ -1,5 +1,6 @@
 //! The table algebra.
-ghost use Rattle.std.specs.Prelude.{◌≡◌, ◌≤◌, true, length, take};
+ghost use Rattle.std.specs.Prelude.{◌≡◌, true};
+ghost use Rattle.rows.specs.Listed.{listed};
 ghost use Rattle.algebra.specs.Kept.{kept as kept_table, roomy, table_sound};
 
 pub mod calls;
@@ -7,18 +8,14 @@ mod file;
 mod operation;
 
 use operation::Operation;
+use rows::Row;
 
-/// Sorts and operations from a table file.
+/// Sorts and operations from a table file, and the values of all operations, one operation after the other.
 #[derive(Clone, Copy)]
 pub struct Table {
-    count: u8,
-    sizes: [u16; 16],
-    number: u8,
-    operations: [Operation; 63],
-    values: [u8; 16384],
-    ghost few: { count ≤ 16 },
-    ghost places: { length operations ≡ 63 },
-    ghost many: { number ≤ 63 },
-    ghost sound: { table_sound (kept_table count sizes number operations values) ≡ true },
-    ghost room: { roomy (take count sizes) (take number operations) ≡ true },
+    sizes: Row<u16, 16>,
+    operations: Row<Operation, 63>,
+    values: Row<u8, 16384>,
+    ghost sound: { table_sound (kept_table (listed sizes) (listed operations) (listed values)) ≡ true },
+    ghost room: { roomy (listed sizes) (listed values) (listed operations) ≡ true },
 }

@@ -1,6 +1,7 @@
 //! Questions to the counting algebra, and filling it.
-ghost use Rattle.std.specs.Prelude.{◌≡◌, ◌/◌, ◌<◌, ◌≤◌, true, false, [], ◌∷◌, length, take, Some, None, Ok, Err, nat_le, slice_index};
+ghost use Rattle.std.specs.Prelude.{◌≡◌, ◌/◌, ◌<◌, ◌≤◌, true, false, [], ◌∷◌, length, Some, None, Ok, Err, slice_index};
 ghost use Rattle.faults.specs.declared.Reason.TheVariants.{BadCountingSizes};
+ghost use Rattle.rows.specs.Listed.{listed};
 ghost use Rattle.definitions.specs.Algebras.{counting};
 ghost use Rattle.definitions.specs.Alg.{within};
 ghost use Rattle.definitions.specs.Lists.{at as member_at};
@@ -12,6 +13,7 @@ ghost use Rattle.algebra.specs.Counted.{counted_lawful};
 use crate::Algebra;
 use crate::counting::Counting;
 use faults::{Reason, TableFault};
+use rows::Row;
 
 fn size_fits(n: u16) -> bool
     ensures { result ≡ size_fits n }
@@ -23,27 +25,19 @@ fn size_fits(n: u16) -> bool
 fn all_fit(sizes: &[u16]) -> bool
     ensures { result ≡ countable sizes.now }
 {
-    if sizes.len() > 15 {
-        return false;
-    }
-    for n in sizes {
-        if !size_fits(*n) {
-            return false;
-        }
-    }
-    true
+    sizes.len() <= 15 && sizes.iter().all(|n| size_fits(*n))
 }
 
-/// The sizes at the front of an array.
-fn front(sizes: &[u16]) -> [u16; 15]
+/// The sizes as a row.
+fn row_of(sizes: &[u16]) -> Row<u16, 15>
     requires { length sizes.now ≤ 15 }
-    ensures { take (length sizes.now) result ≡ sizes.now }
+    ensures { listed result ≡ sizes.now }
 {
-    let mut all = [1u16; 15];
-    for i in 0..sizes.len() {
-        all[i] = sizes[i];
+    let mut row = Row::new(1);
+    for n in sizes {
+        row.push(*n).unwrap();
     }
-    all
+    row
 }
 
 impl Counting {
@@ -51,10 +45,7 @@ impl Counting {
     pub fn new() -> Counting
         ensures { counted result ≡ counting [] }
     {
-        Counting {
-            count: 0,
-            sizes: [1; 15],
-        }
+        Counting { sizes: Row::new(1) }
     }
 
     /// Replaces the sorts above sort 0, or refuses where there are more than fifteen or a size is not 1 to 256.
@@ -67,23 +58,16 @@ impl Counting {
                 place: 0,
             });
         }
-        let all = front(sizes);
-        *self = Counting {
-            count: sizes.len() as u8,
-            sizes: all,
-        };
+        let sizes = row_of(sizes);
+        *self = Counting { sizes };
         Ok(())
     }
 
     /// The size of the sort that an operation counts in.
     fn counts_in(&self, op: u8) -> Option<u16>
-        ensures { result ≡ member_at (take self.now.count self.now.sizes) (op / 4) }
+        ensures { result ≡ member_at (listed self.now.sizes) (op / 4) }
     {
-        if op / 4 < self.count {
-            Some(self.sizes[(op / 4) as usize])
-        } else {
-            None
-        }
+        self.sizes.as_slice().get((op / 4) as usize).copied()
     }
 }
 
@@ -91,11 +75,10 @@ impl Counting {
 fn only(size: u16, args: &[u8]) -> Option<u8>
     ensures { elim result [ None ↦ within (size ∷ []) args.now ≡ false | Some a ↦ (within (size ∷ []) args.now ≡ true) × (slice_index args.now 0 ≡ a) × (a < size) ] }
 {
-    if args.len() != 1 {
-        return None;
+    match args {
+        [a] if (*a as u16) < size => Some(*a),
+        _ => None,
     }
-    let a = args[0];
-    if (a as u16) < size { Some(a) } else { None }
 }
 
 /// One more, stopped at the top.
@@ -103,24 +86,16 @@ fn up(size: u16, args: &[u8]) -> Option<u8>
     requires { size ≤ 256 }
     ensures { result ≡ runs size 0 args.now }
 {
-    let Some(a) = only(size, args) else {
-        return None;
-    };
-    if a as u16 + 1 == size {
-        Some(a)
-    } else {
-        Some(a + 1)
-    }
+    let a = only(size, args)?;
+    Some(if a as u16 + 1 == size { a } else { a + 1 })
 }
 
 /// One less, stopped at 0.
 fn down(size: u16, args: &[u8]) -> Option<u8>
     ensures { result ≡ runs size 1 args.now }
 {
-    let Some(a) = only(size, args) else {
-        return None;
-    };
-    if a == 0 { Some(0) } else { Some(a - 1) }
+    let a = only(size, args)?;
+    Some(a.saturating_sub(1))
 }
 
 /// One more, from the top to 0.
@@ -128,29 +103,21 @@ fn next(size: u16, args: &[u8]) -> Option<u8>
     requires { size ≤ 256 }
     ensures { result ≡ runs size 2 args.now }
 {
-    let Some(a) = only(size, args) else {
-        return None;
-    };
-    if a as u16 + 1 == size {
-        Some(0)
-    } else {
-        Some(a + 1)
-    }
+    let a = only(size, args)?;
+    Some(if a as u16 + 1 == size { 0 } else { a + 1 })
 }
 
 /// Whether the first of two arguments is less.
 fn less(size: u16, args: &[u8]) -> Option<u8>
     ensures { result ≡ runs size 3 args.now }
 {
-    if args.len() != 2 {
+    let [a, b] = args else {
+        return None;
+    };
+    if *a as u16 >= size || *b as u16 >= size {
         return None;
     }
-    let a = args[0];
-    let b = args[1];
-    if a as u16 >= size || b as u16 >= size {
-        return None;
-    }
-    Some(if a < b { 1 } else { 0 })
+    Some((a < b) as u8)
 }
 
 /// The value of the operation numbered `which` of a sort of `size` values.
@@ -173,59 +140,39 @@ impl Algebra for Counting {
     ghost lawful = { counted_lawful };
 
     fn sorts(&self) -> u8 {
-        self.count + 1
+        self.sizes.as_slice().len() as u8 + 1
     }
 
     fn operations(&self) -> u8 {
-        4 * self.count
+        4 * self.sizes.as_slice().len() as u8
     }
 
     fn size(&self, sort: u8) -> Option<u16> {
         if sort == 0 {
             return Some(2);
         }
-        if sort <= self.count {
-            Some(self.sizes[sort as usize - 1])
+        self.sizes.as_slice().get(sort as usize - 1).copied()
+    }
+
+    fn arity(&self, op: u8) -> Option<u8> {
+        self.counts_in(op)?;
+        Some(if op % 4 == 3 { 2 } else { 1 })
+    }
+
+    fn arg_sort(&self, op: u8, k: u8) -> Option<u8> {
+        if k < self.arity(op)? {
+            Some(op / 4 + 1)
         } else {
             None
         }
     }
 
-    fn arity(&self, op: u8) -> Option<u8> {
-        if op / 4 >= self.count {
-            return None;
-        }
-        if op % 4 == 3 { Some(2) } else { Some(1) }
-    }
-
-    fn arg_sort(&self, op: u8, k: u8) -> Option<u8> {
-        if op / 4 >= self.count {
-            return None;
-        }
-        if k == 0 {
-            return Some(op / 4 + 1);
-        }
-        if op % 4 != 3 {
-            return None;
-        }
-        if k == 1 { Some(op / 4 + 1) } else { None }
-    }
-
     fn result_sort(&self, op: u8) -> Option<u8> {
-        if op / 4 >= self.count {
-            return None;
-        }
-        if op % 4 == 3 {
-            Some(0)
-        } else {
-            Some(op / 4 + 1)
-        }
+        self.counts_in(op)?;
+        Some(if op % 4 == 3 { 0 } else { op / 4 + 1 })
     }
 
     fn value(&self, op: u8, args: &[u8]) -> Option<u8> {
-        let Some(size) = self.counts_in(op) else {
-            return None;
-        };
-        count(size, op % 4, args)
+        count(self.counts_in(op)?, op % 4, args)
     }
 }

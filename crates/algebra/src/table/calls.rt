@@ -1,5 +1,6 @@
 //! Questions to the table algebra, and filling it.
-ghost use Rattle.std.specs.Prelude.{◌≡◌, ◌≤◌, true, false, [], ◌∷◌, length, take, Some, None, Ok, Err, nat_lt};
+ghost use Rattle.std.specs.Prelude.{◌≡◌, ◌≤◌, true, false, [], ◌∷◌, length, Some, None, Ok, Err, nat_lt};
+ghost use Rattle.rows.specs.Listed.{listed};
 ghost use Rattle.definitions.specs.Alg.{within, sized};
 ghost use Rattle.definitions.specs.Lists.{at as member_at, each};
 ghost use Rattle.definitions.specs.Reading.{got, bad};
@@ -12,6 +13,7 @@ use crate::table::Table;
 use crate::table::file::read_table;
 use crate::table::operation::Operation;
 use faults::TableFault;
+use rows::Row;
 
 /// The place of some arguments among an operation's values, the last argument running fastest.
 fn place_of(sizes: &[u16], sorts: &[u8], args: &[u8]) -> Option<usize>
@@ -23,8 +25,8 @@ fn place_of(sizes: &[u16], sorts: &[u8], args: &[u8]) -> Option<usize>
         return None;
     }
     let mut place = 0;
-    for k in 0..args.len() {
-        let size = sizes[sorts[k] as usize];
+    for (k, sort) in sorts.iter().enumerate() {
+        let size = sizes[*sort as usize];
         if args[k] as u16 >= size {
             return None;
         }
@@ -38,18 +40,12 @@ impl Table {
     pub fn new() -> Table
         ensures { stored result ≡ record { sizes = 2 ∷ []; ops = [] } }
     {
-        let none = Operation {
-            arity: 0,
-            sorts: [0; 3],
-            result: 0,
-            offset: 0,
-        };
+        let mut sizes = Row::new(2);
+        sizes.push(2).unwrap();
         Table {
-            count: 1,
-            sizes: [2; 16],
-            number: 0,
-            operations: [none; 63],
-            values: [0; 16384],
+            sizes,
+            operations: Row::new(Operation::filler()),
+            values: Row::new(0),
         }
     }
 
@@ -62,13 +58,9 @@ impl Table {
     }
 
     fn operation(&self, op: u8) -> Option<Operation>
-        ensures { result ≡ member_at (take self.now.number self.now.operations) op }
+        ensures { result ≡ member_at (listed self.now.operations) op }
     {
-        if op < self.number {
-            Some(self.operations[op as usize])
-        } else {
-            None
-        }
+        self.operations.as_slice().get(op as usize).copied()
     }
 }
 
@@ -78,57 +70,32 @@ impl Algebra for Table {
     ghost lawful = { λ x. table_lawful (stored x) x.sound };
 
     fn sorts(&self) -> u8 {
-        self.count
+        self.sizes.as_slice().len() as u8
     }
 
     fn operations(&self) -> u8 {
-        self.number
+        self.operations.as_slice().len() as u8
     }
 
     fn size(&self, sort: u8) -> Option<u16> {
-        if sort < self.count {
-            Some(self.sizes[sort as usize])
-        } else {
-            None
-        }
+        self.sizes.as_slice().get(sort as usize).copied()
     }
 
     fn arity(&self, op: u8) -> Option<u8> {
-        let Some(o) = self.operation(op) else {
-            return None;
-        };
-        Some(o.arity)
+        Some(self.operation(op)?.sorts.as_slice().len() as u8)
     }
 
     fn arg_sort(&self, op: u8, k: u8) -> Option<u8> {
-        let Some(o) = self.operation(op) else {
-            return None;
-        };
-        if k < o.arity {
-            Some(o.sorts[k as usize])
-        } else {
-            None
-        }
+        self.operation(op)?.arg_sort(k)
     }
 
     fn result_sort(&self, op: u8) -> Option<u8> {
-        let Some(o) = self.operation(op) else {
-            return None;
-        };
-        Some(o.result)
+        Some(self.operation(op)?.result)
     }
 
     fn value(&self, op: u8, args: &[u8]) -> Option<u8> {
-        let Some(o) = self.operation(op) else {
-            return None;
-        };
-        let Some(place) = place_of(
-            &self.sizes[0..self.count as usize],
-            &o.sorts[0..o.arity as usize],
-            args,
-        ) else {
-            return None;
-        };
-        Some(self.values[o.offset + place])
+        let operation = self.operation(op)?;
+        let place = place_of(self.sizes.as_slice(), operation.sorts.as_slice(), args)?;
+        Some(self.values.as_slice()[operation.offset + place])
     }
 }

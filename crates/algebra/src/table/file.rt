@@ -1,171 +1,75 @@
 //! Reading a table file.
-ghost use Rattle.std.specs.Prelude.{◌≡◌, ◌+◌, ◌*◌, ◌≤◌, true, ◌∷◌, map, length, take, drop, IfOk, nat_lt};
-ghost use Rattle.faults.specs.declared.Reason.TheVariants.{NoSuchSort, ValueTooLarge, NotEnded};
+ghost use Rattle.std.specs.Prelude.{◌≡◌, ◌+◌, ◌*◌, ◌≤◌, true, [], ◌∷◌, map, length, take, drop, IfOk, nat_lt};
+ghost use Rattle.faults.specs.declared.Reason.TheVariants.{NoSuchSort, ValueTooLarge};
+ghost use Rattle.rows.specs.Listed.{listed};
+ghost use Rattle.bits.specs.Told.{Reads};
 ghost use Rattle.definitions.specs.Lists.{each, product};
 ghost use Rattle.definitions.specs.Alg.{sized};
-ghost use Rattle.definitions.specs.Reading.{take_for, below, repeated, follow, must, ending, next as step};
-ghost use Rattle.definitions.specs.Tables.{read_size, read_sizes, read_op, table_reading};
+ghost use Rattle.definitions.specs.Reading.{take_for, below, repeated, follow, complete, next as step};
+ghost use Rattle.definitions.specs.Tables.{read_size, read_sizes, read_op, read_table, table_reading};
 ghost use Rattle.algebra.specs.Kept.{values_of, kept_op, roomy};
-ghost use Rattle.algebra.specs.Told.{told, judged};
+ghost use Rattle.algebra.specs.Tabled.{stored};
+ghost use Rattle.algebra.specs.Told.{judged};
 
 use crate::table::Table;
 use crate::table::operation::Operation;
-use bits::BitReader;
-use faults::{Reason, TableFault};
+use bits::Cursor;
+use faults::{Reason, Stop, TableFault};
+use rows::Row;
 
-/// The sizes of the sorts, and the place behind them.
-#[derive(Clone, Copy)]
-struct Sizes {
-    count: u8,
-    sizes: [u16; 16],
-    next: usize,
-}
-
-/// A size, and the place behind it.
-#[derive(Clone, Copy)]
-struct SizeAt {
-    size: u16,
-    next: usize,
-}
-
-/// A value, and the place behind it.
-#[derive(Clone, Copy)]
-struct ValueAt {
-    value: u8,
-    next: usize,
-}
-
-/// A sort, and the place behind it.
-#[derive(Clone, Copy)]
-struct SortAt {
-    sort: u8,
-    next: usize,
-}
-
-/// The sorts of arguments, and the place behind them.
-#[derive(Clone, Copy)]
-struct Sorts {
-    sorts: [u8; 3],
-    next: usize,
-}
-
-/// An operation, how many values it has, and the place behind it.
-#[derive(Clone, Copy)]
-struct OperationAt {
-    operation: Operation,
-    values: usize,
-    next: usize,
-}
-
-/// Operations, and the place behind them.
-#[derive(Clone, Copy)]
-struct Operations {
-    operations: [Operation; 63],
-    next: usize,
-}
-
-fn read_size(bytes: &[u8], at: usize) -> Result<SizeAt, TableFault>
-    requires { length bytes.now ≤ 16384 }
-    ensures { told (λ x. x.size) (λ x. x.next) result ≡ read_size bytes.now at }
+fn read_size(cursor: &mut Cursor) -> Result<u16, Stop>
+    ensures { Reads (λ n. n) read_size cursor.old cursor.new result }
 {
-    let mut reader = BitReader { bytes, at };
-    let Some(size) = reader.next(8) else {
-        return Err(TableFault {
-            reason: Reason::EndsInField,
-            place: at,
-        });
-    };
-    Ok(SizeAt {
-        size: size as u16 + 1,
-        next: reader.at,
-    })
+    let size = cursor.field(8)?;
+    Ok(size as u16 + 1)
 }
 
 /// The sizes behind sort 0's, with that before them.
-fn read_more_sizes(bytes: &[u8], at: usize, more: u8) -> Result<Sizes, TableFault>
-    requires short { length bytes.now ≤ 16384 }
-    requires few { more ≤ 15 }
-    ensures reads { told (λ x. take (more + 1) x.sizes) (λ x. x.next) result ≡ follow (repeated read_size more bytes.now at) (λ zs q. step (2 ∷ zs) q) }
-    ensures count { IfOk result (λ x. x.count ≡ more + 1) }
+fn read_more_sizes(cursor: &mut Cursor, more: u8) -> Result<Row<u16, 16>, Stop>
+    requires { more ≤ 15 }
+    ensures { Reads (λ r. listed r) (λ f p. follow (repeated read_size more f p) (λ zs q. step (2 ∷ zs) q)) cursor.old cursor.new result }
 {
-    let mut sizes = [2u16; 16];
-    let mut next = at;
-    for i in 0..more {
-        let x = read_size(bytes, next)?;
-        sizes[i as usize + 1] = x.size;
-        next = x.next;
+    let mut sizes = Row::new(2);
+    sizes.push(2).unwrap();
+    for _ in 0..more {
+        let size = read_size(cursor)?;
+        sizes.push(size).unwrap();
     }
-    Ok(Sizes {
-        count: more + 1,
-        sizes,
-        next,
-    })
+    Ok(sizes)
 }
 
-fn read_sizes(bytes: &[u8], at: usize) -> Result<Sizes, TableFault>
-    requires { length bytes.now ≤ 16384 }
-    ensures reads { told (λ x. take x.count x.sizes) (λ x. x.next) result ≡ read_sizes bytes.now at }
-    ensures count { IfOk result (λ x. (1 ≤ x.count) × (x.count ≤ 16)) }
+fn read_sizes(cursor: &mut Cursor) -> Result<Row<u16, 16>, Stop>
+    ensures { Reads (λ r. listed r) read_sizes cursor.old cursor.new result }
 {
-    let mut reader = BitReader { bytes, at };
-    let Some(more) = reader.next(4) else {
-        return Err(TableFault {
-            reason: Reason::EndsInField,
-            place: at,
-        });
-    };
-    let place = reader.at;
-    let Some(truths) = reader.next(8) else {
-        return Err(TableFault {
-            reason: Reason::EndsInField,
-            place,
-        });
-    };
-    if truths != 1 {
-        return Err(TableFault {
+    let more = cursor.field(4)?;
+    let place = cursor.at;
+    let truths = read_size(cursor)?;
+    if truths != 2 {
+        return Err(Stop {
             reason: Reason::TruthSortSize,
             place,
         });
     }
-    read_more_sizes(bytes, reader.at, more as u8)
+    read_more_sizes(cursor, more as u8)
 }
 
-fn read_sort(bytes: &[u8], at: usize, count: u8) -> Result<SortAt, TableFault>
-    requires { length bytes.now ≤ 16384 }
-    ensures { told (λ x. x.sort) (λ x. x.next) result ≡ take_for 4 (below count) NoSuchSort bytes.now at }
+fn read_sort(cursor: &mut Cursor, count: u8) -> Result<u8, Stop>
+    ensures { Reads (λ s. s) (take_for 4 (below count) NoSuchSort) cursor.old cursor.new result }
 {
-    let mut reader = BitReader { bytes, at };
-    let Some(sort) = reader.next(4) else {
-        return Err(TableFault {
-            reason: Reason::EndsInField,
-            place: at,
-        });
-    };
-    if sort >= count as u32 {
-        return Err(TableFault {
-            reason: Reason::NoSuchSort,
-            place: at,
-        });
-    }
-    Ok(SortAt {
-        sort: sort as u8,
-        next: reader.at,
-    })
+    let sort = cursor.field_below(4, count as u32, Reason::NoSuchSort)?;
+    Ok(sort as u8)
 }
 
-fn read_sorts(bytes: &[u8], at: usize, count: u8, arity: u8) -> Result<Sorts, TableFault>
-    requires short { length bytes.now ≤ 16384 }
-    requires few { arity ≤ 3 }
-    ensures { told (λ x. take arity x.sorts) (λ x. x.next) result ≡ repeated (take_for 4 (below count) NoSuchSort) arity bytes.now at }
+fn read_sorts(cursor: &mut Cursor, count: u8, arity: u8) -> Result<Row<u8, 3>, Stop>
+    requires { arity ≤ 3 }
+    ensures { Reads (λ r. listed r) (repeated (take_for 4 (below count) NoSuchSort) arity) cursor.old cursor.new result }
 {
-    let mut sorts = [0u8; 3];
-    let mut next = at;
-    for k in 0..arity {
-        let x = read_sort(bytes, next, count)?;
-        sorts[k as usize] = x.sort;
-        next = x.next;
+    let mut sorts = Row::new(0);
+    for _ in 0..arity {
+        let sort = read_sort(cursor, count)?;
+        sorts.push(sort).unwrap();
     }
-    Ok(Sorts { sorts, next })
+    Ok(sorts)
 }
 
 /// How many lists of arguments of some sorts there are.
@@ -175,203 +79,117 @@ fn lists(sizes: &[u16], sorts: &[u8]) -> usize
     ensures { result ≡ product (sized sizes.now sorts.now) }
 {
     let mut total = 1usize;
-    for k in 0..sorts.len() {
-        total *= sizes[sorts[k] as usize] as usize;
+    for sort in sorts {
+        total *= sizes[*sort as usize] as usize;
     }
     total
 }
 
-fn read_value(bytes: &[u8], at: usize, size: u16) -> Result<ValueAt, TableFault>
-    requires { length bytes.now ≤ 16384 }
-    ensures { told (λ x. x.value) (λ x. x.next) result ≡ take_for 8 (below size) ValueTooLarge bytes.now at }
+fn read_value(cursor: &mut Cursor, size: u16) -> Result<u8, Stop>
+    ensures { Reads (λ v. v) (take_for 8 (below size) ValueTooLarge) cursor.old cursor.new result }
 {
-    let mut reader = BitReader { bytes, at };
-    let Some(value) = reader.next(8) else {
-        return Err(TableFault {
-            reason: Reason::EndsInField,
-            place: at,
-        });
-    };
-    if value >= size as u32 {
-        return Err(TableFault {
-            reason: Reason::ValueTooLarge,
-            place: at,
-        });
-    }
-    Ok(ValueAt {
-        value: value as u8,
-        next: reader.at,
-    })
+    let value = cursor.field_below(8, size as u32, Reason::ValueTooLarge)?;
+    Ok(value as u8)
 }
 
-/// Reads the values of an operation to their places among all, and tells the place behind them.
+/// Reads the values of an operation behind those before it. No table file has more than there is room for.
 fn read_values(
-    bytes: &[u8],
-    at: usize,
+    cursor: &mut Cursor,
     size: u16,
     count: usize,
-    values: &mut [u8],
-    offset: usize,
-) -> Result<usize, TableFault>
-    requires short { length bytes.now ≤ 16384 }
-    requires room { length values.old ≡ 16384 }
-    requires begun { offset ≤ 16384 }
-    requires ahead { 8 * offset ≤ at }
-    ensures reads { told (λ _. take count (drop offset values.new)) (λ q. q) result ≡ repeated (take_for 8 (below size) ValueTooLarge) count bytes.now at }
-    ensures before { take offset values.new ≡ take offset values.old }
-    ensures fit { IfOk result (λ q. (offset + count ≤ 16384) × (8 * (offset + count) ≤ q)) }
+    values: &mut Row<u8, 16384>,
+) -> Result<(), Stop>
+    requires short { length cursor.old.bytes.now ≤ 16384 }
+    requires ahead { 8 * length (listed values.old) ≤ cursor.old.at }
+    ensures reads { Reads (λ _. drop (length (listed values.old)) (listed values.new)) (repeated (take_for 8 (below size) ValueTooLarge) count) cursor.old cursor.new result }
+    ensures before { take (length (listed values.old)) (listed values.new) ≡ listed values.old }
+    ensures ahead { IfOk result (λ _. 8 * length (listed values.new) ≤ cursor.new.at) }
 {
-    let mut next = at;
-    for i in 0..count {
-        let x = read_value(bytes, next, size)?;
-        values[offset + i] = x.value;
-        next = x.next;
+    for _ in 0..count {
+        let value = read_value(cursor, size)?;
+        values.push(value).unwrap();
     }
-    Ok(next)
+    Ok(())
 }
 
 fn read_operation(
-    bytes: &[u8],
-    at: usize,
+    cursor: &mut Cursor,
     sizes: &[u16],
-    values: &mut [u8],
-    offset: usize,
-) -> Result<OperationAt, TableFault>
-    requires short { length bytes.now ≤ 16384 }
+    values: &mut Row<u8, 16384>,
+) -> Result<Operation, Stop>
+    requires short { length cursor.old.bytes.now ≤ 16384 }
     requires few { length sizes.now ≤ 16 }
-    requires room { length values.old ≡ 16384 }
-    requires begun { offset ≤ 16384 }
-    requires ahead { 8 * offset ≤ at }
-    ensures reads { told (λ x. kept_op sizes.now values.new x.operation) (λ x. x.next) result ≡ read_op sizes.now bytes.now at }
-    ensures before { take offset values.new ≡ take offset values.old }
-    ensures fit { IfOk result (λ x. (x.operation.offset ≡ offset) × (x.values ≡ values_of sizes.now x.operation) × (offset + x.values ≤ 16384) × (8 * (offset + x.values) ≤ x.next)) }
+    requires ahead { 8 * length (listed values.old) ≤ cursor.old.at }
+    ensures reads { Reads (λ o. kept_op sizes.now (listed values.new) o) (read_op sizes.now) cursor.old cursor.new result }
+    ensures before { take (length (listed values.old)) (listed values.new) ≡ listed values.old }
+    ensures fit { IfOk result (λ o. (o.offset + values_of sizes.now o ≤ length (listed values.new)) × (8 * length (listed values.new) ≤ cursor.new.at)) }
 {
-    let mut reader = BitReader { bytes, at };
-    let Some(arity) = reader.next(2) else {
-        return Err(TableFault {
-            reason: Reason::EndsInField,
-            place: at,
-        });
-    };
+    let arity = cursor.field(2)?;
     let count = sizes.len() as u8;
-    let args = read_sorts(bytes, reader.at, count, arity as u8)?;
-    let sorts = args.sorts;
-    let result = read_sort(bytes, args.next, count)?;
-    let number = lists(sizes, &sorts[0..arity as usize]);
-    let next = read_values(
-        bytes,
-        result.next,
-        sizes[result.sort as usize],
-        number,
-        values,
-        offset,
-    )?;
-    let operation = Operation {
-        arity: arity as u8,
+    let sorts = read_sorts(cursor, count, arity as u8)?;
+    let result = read_sort(cursor, count)?;
+    let number = lists(sizes, sorts.as_slice());
+    let offset = values.as_slice().len();
+    read_values(cursor, sizes[result as usize], number, values)?;
+    Ok(Operation {
         sorts,
-        result: result.sort,
+        result,
         offset,
-    };
-    Ok(OperationAt {
-        operation,
-        values: number,
-        next,
     })
 }
 
 fn read_operations(
-    bytes: &[u8],
-    at: usize,
+    cursor: &mut Cursor,
     sizes: &[u16],
     count: u8,
-    values: &mut [u8],
-) -> Result<Operations, TableFault>
-    requires short { length bytes.now ≤ 16384 }
+    values: &mut Row<u8, 16384>,
+) -> Result<Row<Operation, 63>, Stop>
+    requires short { length cursor.old.bytes.now ≤ 16384 }
     requires few { length sizes.now ≤ 16 }
     requires many { count ≤ 63 }
-    requires room { length values.old ≡ 16384 }
-    ensures reads { told (λ x. map (kept_op sizes.now values.new) (take count x.operations)) (λ x. x.next) result ≡ repeated (read_op sizes.now) count bytes.now at }
-    ensures fit { IfOk result (λ x. roomy sizes.now (take count x.operations) ≡ true) }
+    requires none { listed values.old ≡ [] }
+    ensures reads { Reads (λ r. map (kept_op sizes.now (listed values.new)) (listed r)) (repeated (read_op sizes.now) count) cursor.old cursor.new result }
+    ensures fit { IfOk result (λ r. roomy sizes.now (listed values.new) (listed r) ≡ true) }
 {
-    let none = Operation {
-        arity: 0,
-        sorts: [0; 3],
-        result: 0,
-        offset: 0,
-    };
-    let mut operations = [none; 63];
-    let mut offset = 0;
-    let mut next = at;
-    for i in 0..count {
-        let x = read_operation(bytes, next, sizes, values, offset)?;
-        operations[i as usize] = x.operation;
-        offset += x.values;
-        next = x.next;
+    let mut operations = Row::new(Operation::filler());
+    for _ in 0..count {
+        let operation = read_operation(cursor, sizes, values)?;
+        operations.push(operation).unwrap();
     }
-    Ok(Operations { operations, next })
+    Ok(operations)
 }
 
-/// Whether only zero bits up to the byte are left.
-fn ended(bytes: &[u8], at: usize) -> bool
-    requires { length bytes.now ≤ 16384 }
-    ensures { must result NotEnded at bytes.now at ≡ ending bytes.now at }
+fn read_whole(cursor: &mut Cursor) -> Result<Table, Stop>
+    requires short { length cursor.old.bytes.now ≤ 16384 }
+    ensures { Reads (λ t. stored t) (complete read_table) cursor.old cursor.new result }
 {
-    let total = 8 * bytes.len();
-    if at >= total {
-        return true;
-    }
-    if total - at > 7 {
-        return false;
-    }
-    let mut reader = BitReader { bytes, at };
-    match reader.next((total - at) as u32) {
-        Some(rest) => rest == 0,
-        None => false,
-    }
+    let sizes = read_sizes(cursor)?;
+    let number = cursor.field(6)?;
+    let mut values = Row::new(0);
+    let operations = read_operations(cursor, sizes.as_slice(), number as u8, &mut values)?;
+    cursor.end()?;
+    Ok(Table {
+        sizes,
+        operations,
+        values,
+    })
 }
 
 /// What a table file says.
 pub fn read_table(file: &[u8]) -> Result<Table, TableFault>
     ensures { judged result ≡ table_reading file.now }
 {
-    if file.len() == 0 || file.len() > 16384 {
+    if file.is_empty() || file.len() > 16384 {
         return Err(TableFault {
             reason: Reason::BadLength,
             place: 0,
         });
     }
-    let x = read_sizes(file, 0)?;
-    let sizes = x.sizes;
-    let mut reader = BitReader {
-        bytes: file,
-        at: x.next,
-    };
-    let Some(number) = reader.next(6) else {
-        return Err(TableFault {
-            reason: Reason::EndsInField,
-            place: x.next,
-        });
-    };
-    let mut values = [0u8; 16384];
-    let all = read_operations(
-        file,
-        reader.at,
-        &sizes[0..x.count as usize],
-        number as u8,
-        &mut values,
-    )?;
-    if !ended(file, all.next) {
-        return Err(TableFault {
-            reason: Reason::NotEnded,
-            place: all.next,
-        });
-    }
-    let operations = all.operations;
-    Ok(Table {
-        count: x.count,
-        sizes,
-        number: number as u8,
-        operations,
-        values,
-    })
+    let mut cursor = Cursor { bytes: file, at: 0 };
+    let table = read_whole(&mut cursor);
+    let Cursor {
+        bytes: _bytes,
+        at: _at,
+    } = cursor;
+    Ok(table?)
 }

@@ -15,8 +15,8 @@ returns-then-args-sorts c =
     let l : length zs ≡ length c.args.sorts.now = sized_long c.args.sizes.now c.args.sorts.now in
     answer (within zs xs) (place_of 0 zs xs) (within_uneven zs xs (λ e. omega arith))
 
-pub bounds-sizes-sorts : goal.bounds-sizes-sorts
-bounds-sizes-sorts c =
+pub bounds-sizes-sort : goal.bounds-sizes-sort
+bounds-sizes-sort c =
     let ss : List ℕ = c.args.sorts.now in
     let k = c.loop-k.k in
     ltb-true (get_or ss k 0) (length c.args.sizes.now) (each_at (λ s. ltb s (length c.args.sizes.now)) ss k c.requires.known (omega arith))

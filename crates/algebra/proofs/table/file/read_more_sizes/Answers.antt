@@ -1,26 +1,27 @@
-use Rattle.std.proofs.Common.{◌≡◌, ℕ, ◌+◌, take, set, sym, ap, ◌∙◌, add-one, arith, length-set, take-suc-set}
+use Rattle.std.proofs.Common.{◌≡◌, ℕ, suc, List, [], ◌∷◌, ◌++◌, arith, ap, ◌∙◌, length}
+use Rattle.bits.proofs.InRow.{begun_next, begun_stop}
+use Rattle.rows.specs.Listed.{listed}
+use Rattle.definitions.specs.Reading.{repeated, next}
 use Rattle.definitions.specs.Tables.{read_size}
-use Rattle.algebra.specs.declared.table.file.Sizes.{Sizes}
-use Rattle.algebra.specs.Told.{told}
-use Rattle.algebra.proofs.Rows.{passed, broken, fill_next, fill_stop}
+use Rattle.algebra.proofs.Rows.{follow_stop}
 use Rattle.algebra.proofs.table.file.read_more_sizes.Goals as goal
 
-pub returns-in_err-x : goal.returns-in_err-x
-returns-in_err-x c =
-    let e = c.in_err-x.field-0.0 in
-    record {
-      reads = ap (told (λ (x : Sizes). take (c.args.more + 1) x.sizes) (λ (x : Sizes). x.next)) (passed c.from_residual.result e c.from_residual.ensures.1) ∙
-          sym (c.loop-i.invariant.1 ∙ fill_stop c.args.bytes.now read_size (take (c.loop-i.i + 1) c.loop-i.sizes) c.args.more c.loop-i.i c.loop-i.next e.reason e.place (omega arith) c.in_err-x.ensures);
-      count = broken c.from_residual.result e (λ (x : Sizes). x.count ≡ c.args.more + 1) c.from_residual.ensures.1;
-    }
+pub returns-in_err-size : goal.returns-in_err-size
+returns-in_err-size c =
+    let (xs, e, b) = c.loop.invariant in
+    let s = begun_stop read_size c.read_size.new.cursor (λ r. listed r) c.from_residual.result c.in_err-size.field-0.0 (omega arith) b c.in_err-size.ensures c.from_residual.ensures.1 in (
+      follow_stop (λ r. listed r) (λ r. listed r) (λ (zs : List ℕ) q. next (2 ∷ zs) q) c.read_size.new.cursor.at (repeated read_size c.args.more c.args.cursor.now.bytes.now c.args.cursor.now.at) c.from_residual.result c.in_err-size.field-0.0
+          c.from_residual.ensures.1 s.0,
+      s.1,
+    )
 
-pub loop-i-preserved : goal.loop-i-preserved
-loop-i-preserved c =
-    let x = c.in_ok-x.x in
-    let i = c.loop-i.i in
-    let xs = c.loop-i.sizes in (
-      length-set xs (i + 1) x.size ∙ c.loop-i.invariant.0,
-      c.loop-i.invariant.1 ∙
-          fill_next c.args.bytes.now read_size (take (i + 1) xs) (take (i + 1 + 1) (set xs (i + 1) x.size)) c.args.more i c.loop-i.next x.next x.size (omega arith) c.in_ok-x.ensures
-          (sym (ap (λ (n : ℕ). take n (set xs (i + 1) x.size)) (add-one (i + 1)) ∙ take-suc-set xs (i + 1) x.size (omega arith))),
+pub loop-preserved : goal.loop-preserved
+loop-preserved c =
+    let (xs, e, b) = c.loop.invariant in
+    let n = b.count in
+    let size = c.in_ok-size.size in
+    let l : length (listed c.loop.sizes) ≡ suc (length xs) = ap (λ (l : List ℕ). length l) e in (
+      xs ++ (size ∷ []),
+      c.push-in-loop.ensures.added (omega arith) ∙ ap (λ (l : List ℕ). l ++ (size ∷ [])) e,
+      begun_next read_size c.read_size.new.cursor size (omega arith) b c.in_ok-size.ensures,
     )

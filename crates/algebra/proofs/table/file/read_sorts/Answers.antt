@@ -1,24 +1,24 @@
-use Rattle.std.proofs.Common.{◌+◌, take, set, sym, ap, ◌∙◌, add-one, arith, length-set, take-suc-set}
+use Rattle.std.proofs.Common.{◌<◌, length, arith, rules, sym}
 use Rattle.faults.specs.declared.Reason.TheVariants.{NoSuchSort}
 use Rattle.definitions.specs.Reading.{take_for, below}
-use Rattle.algebra.specs.declared.table.file.Sorts.{Sorts}
-use Rattle.algebra.specs.Told.{told}
-use Rattle.algebra.proofs.Rows.{passed, fill_next, fill_stop}
+use Rattle.rows.specs.Listed.{listed}
+use Rattle.bits.proofs.InRow.{begun_first, begun_next, begun_stop, begun_end}
 use Rattle.algebra.proofs.table.file.read_sorts.Goals as goal
 
-pub returns-in_err-x : goal.returns-in_err-x
-returns-in_err-x c =
-    let e = c.in_err-x.field-0.0 in
-    ap (told (λ (x : Sorts). take c.args.arity x.sorts) (λ (x : Sorts). x.next)) (passed c.from_residual.result e c.from_residual.ensures.1) ∙
-    sym (c.loop-k.invariant.1 ∙ fill_stop c.args.bytes.now (take_for 4 (below c.args.count) NoSuchSort) (take c.loop-k.k c.loop-k.sorts) c.args.arity c.loop-k.k c.loop-k.next e.reason e.place (omega arith) c.in_err-x.ensures)
+pub loop-init : goal.loop-init
+loop-init c = rw c.new-sorts.ensures (begun_first (take_for 4 (below c.args.count) NoSuchSort) c.args.arity c.args.cursor.now)
 
-pub loop-k-preserved : goal.loop-k-preserved
-loop-k-preserved c =
-    let x = c.in_ok-x.x in
-    let k = c.loop-k.k in
-    let xs = c.loop-k.sorts in (
-      length-set xs k x.sort ∙ c.loop-k.invariant.0,
-      c.loop-k.invariant.1 ∙
-          fill_next c.args.bytes.now (take_for 4 (below c.args.count) NoSuchSort) (take k xs) (take (k + 1) (set xs k x.sort)) c.args.arity k c.loop-k.next x.next x.sort (omega arith) c.in_ok-x.ensures
-          (rw add-one (sym (take-suc-set xs k x.sort (omega arith)))),
-    )
+pub returns-in_err-sort : goal.returns-in_err-sort
+returns-in_err-sort c =
+    begun_stop (take_for 4 (below c.args.count) NoSuchSort) c.read_sort.new.cursor (λ r. listed r) c.from_residual.result c.in_err-sort.field-0.0 (omega arith) c.loop.invariant c.in_err-sort.ensures c.from_residual.ensures.1
+
+pub unwrap-requires : goal.unwrap-requires
+unwrap-requires c =
+    let n = c.loop.invariant.count in
+    c.push.ensures.room.1 (omega arith)
+
+pub loop-preserved : goal.loop-preserved
+loop-preserved c = let n = c.loop.invariant.count in rw (c.push.ensures.added (omega arith)) (begun_next (take_for 4 (below c.args.count) NoSuchSort) c.read_sort.new.cursor c.in_ok-sort.sort (omega arith) c.loop.invariant c.in_ok-sort.ensures)
+
+pub returns : goal.returns
+returns c = (begun_end (take_for 4 (below c.args.count) NoSuchSort) (omega arith) c.loop.invariant, c.loop.invariant.same)

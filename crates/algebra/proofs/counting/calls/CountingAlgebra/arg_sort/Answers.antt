@@ -1,35 +1,16 @@
-use Rattle.std.proofs.Common.{◌≡◌, length, take, arith, rules}
-use Rattle.definitions.specs.Alg.{Op}
-use Rattle.definitions.specs.Lists.{at}
-use Rattle.algebra.proofs.Counts.{arg_first, arg_second, arg_none, none_at}
+use Rattle.std.proofs.Common.{sym, ◌∙◌, arith}
+use Rattle.rows.specs.Listed.{listed}
+use Rattle.algebra.specs.Lists.{some_inj}
+use Rattle.algebra.specs.Counted.{counted_lawful}
+use Rattle.algebra.proofs.Counts.{arg_own, arity_in}
 use Rattle.algebra.proofs.counting.calls.CountingAlgebra.arg_sort.Goals as goal
 
-pub returns-then-op-self : goal.returns-then-op-self
-returns-then-op-self c =
-    let ns = take c.args.self.now.count c.args.self.now.sizes in
-    let l : length ns ≡ c.args.self.now.count = search rules in
-    none_at ns c.args.op (λ (q : Op). at q.args c.args.k) (omega arith)
+pub returns-then-branch : goal.returns-then-branch
+returns-then-branch c =
+    let ns = listed c.args.self.now.sizes in
+    let e = c.in_ok-arity.ensures in
+    arg_own ns c.args.op (arity_in ns c.args.op c.in_ok-arity.field-0 e) c.in_ok-arity.field-0 c.args.k e c.if-branch.true
 
-pub returns-then-k-eq0 : goal.returns-then-k-eq0
-returns-then-k-eq0 c =
-    let ns = take c.args.self.now.count c.args.self.now.sizes in
-    let l : length ns ≡ c.args.self.now.count = search rules in
-    arg_first ns c.args.op (omega arith) c.args.k (omega arith)
-
-pub returns-then-op-ne3 : goal.returns-then-op-ne3
-returns-then-op-ne3 c =
-    let ns = take c.args.self.now.count c.args.self.now.sizes in
-    let l : length ns ≡ c.args.self.now.count = search rules in
-    arg_none ns c.args.op (omega arith) c.args.k (λ e. omega arith) (λ _ e. omega arith)
-
-pub returns-then-k-eq1 : goal.returns-then-k-eq1
-returns-then-k-eq1 c =
-    let ns = take c.args.self.now.count c.args.self.now.sizes in
-    let l : length ns ≡ c.args.self.now.count = search rules in
-    arg_second ns c.args.op (omega arith) c.args.k (omega arith) (omega arith)
-
-pub returns-else-k-eq1 : goal.returns-else-k-eq1
-returns-else-k-eq1 c =
-    let ns = take c.args.self.now.count c.args.self.now.sizes in
-    let l : length ns ≡ c.args.self.now.count = search rules in
-    arg_none ns c.args.op (omega arith) c.args.k (λ e. omega arith) (λ e _. omega arith)
+pub returns-else-branch : goal.returns-else-branch
+returns-else-branch c =
+    sym ((counted_lawful c.args.self.now).no_arg c.args.op c.args.k (λ n e. let i = some_inj c.in_ok-arity.field-0 n (c.in_ok-arity.ensures ∙ e) in omega arith))

@@ -1,22 +1,19 @@
-use Rattle.std.proofs.Common.{◌≡◌, length, take, Some, arith, rules}
+use Rattle.std.proofs.Common.{◌/◌, Some, sym, ◌∙◌, arith}
+use Rattle.rows.specs.Listed.{listed}
 use Rattle.definitions.specs.Alg.{Op}
+use Rattle.algebra.specs.Lists.{at_lt}
 use Rattle.algebra.proofs.Counts.{result_own, result_truth, none_at}
 use Rattle.algebra.proofs.counting.calls.CountingAlgebra.result_sort.Goals as goal
 
-pub returns-then-op-self : goal.returns-then-op-self
-returns-then-op-self c =
-    let ns = take c.args.self.now.count c.args.self.now.sizes in
-    let l : length ns ≡ c.args.self.now.count = search rules in
-    none_at ns c.args.op (λ (q : Op). Some q.res) (omega arith)
+pub returns-in_err-counts_in : goal.returns-in_err-counts_in
+returns-in_err-counts_in c = c.from_residual.ensures ∙ none_at (listed c.args.self.now.sizes) c.args.op (λ (q : Op). Some q.res) c.in_err-counts_in.ensures
 
 pub returns-then-op-eq3 : goal.returns-then-op-eq3
 returns-then-op-eq3 c =
-    let ns = take c.args.self.now.count c.args.self.now.sizes in
-    let l : length ns ≡ c.args.self.now.count = search rules in
-    result_truth ns c.args.op (omega arith) (omega arith)
+    let ns = listed c.args.self.now.sizes in
+    result_truth ns c.args.op (at_lt ns (c.args.op / 4) c.in_ok-counts_in.field-0 (sym c.in_ok-counts_in.ensures)) c.if-op-eq3.true
 
 pub returns-else-op-eq3 : goal.returns-else-op-eq3
 returns-else-op-eq3 c =
-    let ns = take c.args.self.now.count c.args.self.now.sizes in
-    let l : length ns ≡ c.args.self.now.count = search rules in
-    result_own ns c.args.op (omega arith) (λ e. omega arith)
+    let ns = listed c.args.self.now.sizes in
+    result_own ns c.args.op (at_lt ns (c.args.op / 4) c.in_ok-counts_in.field-0 (sym c.in_ok-counts_in.ensures)) (λ e. omega arith)

@@ -1,18 +1,10 @@
-use Rattle.std.proofs.Common.{take, Some}
+use Rattle.std.proofs.Common.{Some}
+use Rattle.rows.specs.Listed.{listed}
 use Rattle.definitions.specs.Alg.{Op}
-use Rattle.algebra.specs.Tables.{ask_some, ask_none}
+use Rattle.algebra.specs.Tables.{ask_some}
 use Rattle.algebra.proofs.table.calls.TableAlgebra.result_sort.Goals as goal
-
-pub returns-in_default : goal.returns-in_default
-returns-in_default c =
-    let t = c.args.self.now in
-    let sizes = take t.count t.sizes in
-    let os = take t.number t.operations in
-    ask_none sizes t.values os c.args.op (λ (q : Op). Some q.res) c.in_default.ensures
 
 pub returns : goal.returns
 returns c =
     let t = c.args.self.now in
-    let sizes = take t.count t.sizes in
-    let os = take t.number t.operations in
-    ask_some sizes t.values os c.args.op (λ (q : Op). Some q.res) c.in-Some.o c.in-Some.ensures
+    ask_some (listed t.sizes) (listed t.values) (listed t.operations) c.args.op (λ (q : Op). Some q.res) c.in_ok-operation.field-0 c.in_ok-operation.ensures
