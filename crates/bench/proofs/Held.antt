@@ -13,6 +13,9 @@ use Rattle.definitions.specs.Written.{written}
 use Rattle.definitions.specs.Settle.{Pass, Ran, wrote, refused, fitted, ran_on}
 use Rattle.definitions.specs.Rules.{fitted_in, applied_to, applied}
 use Rattle.definitions.specs.Calls.{Bytes, Delivers, Stayed, Answers, run_on, Loads}
+use Rattle.definitions.specs.Past.{loads}
+use Rattle.definitions.specs.Histories.{Follows}
+use Rattle.theorems.proofs.Main.{follows}
 use Rattle.bench.specs.declared.Bench.{Bench}
 use Rattle.bench.specs.Holds.{holding}
 use Rattle.bench.proofs.Tails.{delivered_front}
@@ -27,13 +30,16 @@ read_short a f s e = go (eqb (length f) 0) (ltb 8192 (length f)) refl e
     go false false t e = omega (arith, ltb-false 8192 (length f) t)
 
 -- the elements of a slice of bytes are bytes
-pub are_bytes : (f : List ℕ) → ((i : ℕ) → get_or f i 0 < 256) → Bytes f
+are_bytes : (f : List ℕ) → ((i : ℕ) → get_or f i 0 < 256) → Bytes f
 are_bytes [] h = tt
 are_bytes (x ∷ xs) h = (h 0, are_bytes xs (λ i. h (suc i)))
 
 pub declined_load : (a : Alg) (f h : List ℕ) (r : Result (Unit {0}) ReadFault) (e : ReadFault) → reading a f ≡ bad e.reason e.place → r ≡ Err e → Loads a f h h r
 declined_load a f h (Ok x) e w q = absurd (let z : ◌≡◌ {A = ℕ} 0 1 = cc in omega arith)
 declined_load a f h (Err d) e w q = let k : e ≡ d = cc in record { why = w ∙ ap (λ (x : ReadFault). bad x.reason x.place) k; kept = refl }
+
+pub loaded : (a : Alg) (f h k : List ℕ) (r : Result (Unit {0}) ReadFault) → ((i : ℕ) → get_or f i 0 < 256) → Loads a f h k r → Follows (loads a f r) h k
+loaded a f h k r b l = follows (loads a f r) h k (are_bytes f b, l)
 
 -- a buffer of 8,192 bytes is as good as none
 fitted_same : (g : List ℕ) → fitted_in 8192 g ≡ fitted g

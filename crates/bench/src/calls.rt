@@ -8,6 +8,7 @@ ghost use Rattle.expansion.specs.Fronts.{Expands};
 
 use crate::Bench;
 use algebra::Algebra;
+use bits::deliver;
 use expansion::{Expansion, expand};
 use faults::{ExpandFault, Halt, PassFault, ReadFault, Reason, SettleFault};
 use passes::Pass;
@@ -37,7 +38,7 @@ impl Bench {
     pub fn held(&self) -> &[u8]
         ensures { result.now ≡ holding self.now }
     {
-        &self.bytes[0..self.len]
+        &self.bytes[..self.len]
     }
 
     /// Holds the file if it is that of a system that fits the algebra.
@@ -45,17 +46,10 @@ impl Bench {
         ensures history { Follows (loads (G.meaning alg.now) file.now result) (holding self.old) (holding self.new) }
         ensures answer { Loads (G.meaning alg.now) file.now (holding self.old) (holding self.new) result }
     {
-        self.load_inner(alg, file)
-    }
-
-    fn load_inner<G: Algebra>(&mut self, alg: &G, file: &[u8]) -> Result<(), ReadFault>
-        ensures { Loads (G.meaning alg.now) file.now (holding self.old) (holding self.new) result }
-    {
-        let _outline = read(alg, file)?;
+        read(alg, file)?;
         let mut bytes = [0; 8192];
-        copy(&mut bytes, file);
-        self.bytes = bytes;
-        self.len = file.len();
+        let len = deliver(&mut bytes, file).unwrap();
+        *self = Bench { bytes, len };
         Ok(())
     }
 
@@ -68,8 +62,7 @@ impl Bench {
         }
         let mut bytes = [0; 8192];
         let len = pass.apply(alg, self.held(), &mut bytes)?;
-        self.bytes = bytes;
-        self.len = len;
+        *self = Bench { bytes, len };
         Ok(())
     }
 
@@ -94,7 +87,7 @@ impl Bench {
         ensures { Keeps (holding self.old) (holding self.new) result }
     {
         let mut work = *self;
-        let rounds = run_rounds(&mut work, alg)?;
+        let rounds = work.run_rounds(alg)?;
         *self = work;
         Ok(rounds)
     }
@@ -113,48 +106,30 @@ impl Bench {
         }
         expand(alg, self.held(), work, out)
     }
-}
 
-// Copies `part` to the front of `out`.
-fn copy(out: &mut [u8], part: &[u8])
-    requires { length part.now ≤ length out.old }
-    ensures { out.new ≡ part.now ++ drop (length part.now) out.old }
-{
-    let n = part.len();
-    out[0..n].copy_from_slice(part);
-}
-
-// One pass of a round.
-fn run_turn<G: Algebra>(bench: &mut Bench, alg: &G, letter: char, round: usize) -> Result<(), Halt>
-    requires { letter < 128 }
-{
-    match bench.run_letter(alg, letter) {
-        Ok(()) => Ok(()),
-        Err(fault) => Err(Halt {
-            fault,
-            letter: letter as u8,
-            round,
-        }),
-    }
-}
-
-// The four passes in turn.
-fn run_round<G: Algebra>(bench: &mut Bench, alg: &G, round: usize) -> Result<(), Halt> {
-    run_turn(bench, alg, 'C', round)?;
-    run_turn(bench, alg, 'F', round)?;
-    run_turn(bench, alg, 'R', round)?;
-    run_turn(bench, alg, 'U', round)
-}
-
-// Rounds until one leaves the file equal: the number of the last.
-fn run_rounds<G: Algebra>(bench: &mut Bench, alg: &G) -> Result<usize, SettleFault> {
-    // Each round but the last makes the system smaller, and no system in a file of 65,536 bits is larger than that.
-    for round in 1..65537usize {
-        let before = *bench;
-        run_round(bench, alg, round)?;
-        if before.held() == bench.held() {
-            return Ok(round);
+    // The four passes in turn.
+    fn run_round<G: Algebra>(&mut self, alg: &G, round: usize) -> Result<(), Halt> {
+        for letter in *b"CFRU" {
+            self.run_letter(alg, char::from(letter))
+                .map_err(|fault| Halt {
+                    fault,
+                    letter,
+                    round,
+                })?;
         }
+        Ok(())
     }
-    Ok(65537)
+
+    // Rounds until one leaves the file equal: the number of the last.
+    fn run_rounds<G: Algebra>(&mut self, alg: &G) -> Result<usize, SettleFault> {
+        // Each round but the last makes the system smaller, and no system in a file of 65,536 bits is larger than that.
+        for round in 1..65537usize {
+            let before = *self;
+            self.run_round(alg, round)?;
+            if before.held() == self.held() {
+                return Ok(round);
+            }
+        }
+        Ok(65537)
+    }
 }

@@ -1,8 +1,11 @@
--- The numbers of the reasons, and the innermost fault: the reason with the layer that tells it and its place.
-use Rattle.std.specs.Prelude.{ℕ}
+-- The numbers of the reasons, and the innermost fault: the reason with the layer that tells it and its place, and how it is printed.
+use Rattle.std.specs.Prelude.{ℕ, List, ◌++◌, codes}
+use Rattle.std.specs.Fmt.{decimal}
 use Rattle.faults.specs.declared.Reason.{Reason}
 use Rattle.faults.specs.declared.Reason.TheVariants.{BenchEmpty, BadLength, EndsInField, NoEquations, TooDeep, NoSuchSort, NoSuchName, ValueTooLarge, WrongSort, NotEnded, ResultTooLong, TooManyInstances, BooleanTooLong, RankOfBothSigns, TooFewTruths, TruthSortSize, BadCountingSizes}
 use Rattle.faults.specs.declared.Layer.TheVariants.{Table, Read, Pass, Expand, Solve}
+use Rattle.faults.specs.declared.Layer.{Layer}
+use Rattle.faults.specs.declared.Stop.{Stop}
 use Rattle.faults.specs.declared.Fault.{Fault}
 use Rattle.faults.specs.declared.TableFault.{TableFault}
 use Rattle.faults.specs.declared.ReadFault.{ReadFault}
@@ -32,6 +35,16 @@ number_of TooFewTruths = 15
 number_of TruthSortSize = 16
 number_of BadCountingSizes = 17
 
+-- what stops reading is the fault of the layer that reads
+abbrev pub table_stop : Stop → TableFault
+table_stop s = record { reason = s.reason; place = s.place }
+
+abbrev pub read_stop : Stop → ReadFault
+read_stop s = record { reason = s.reason; place = s.place }
+
+abbrev pub solve_stop : Stop → SolveFault
+solve_stop s = record { reason = s.reason; place = s.place }
+
 abbrev pub of_table : TableFault → Fault
 of_table e = record { reason = e.reason; layer = Table; place = e.place }
 
@@ -52,3 +65,14 @@ of_expand (Refused r) = record { reason = r; layer = Expand; place = 0 }
 
 abbrev pub of_solve : SolveFault → Fault
 of_solve e = record { reason = e.reason; layer = Solve; place = e.place }
+
+abbrev pub layer_name : Layer → List ℕ
+layer_name Table = codes "TABLE"
+layer_name Read = codes "READ"
+layer_name Pass = codes "PASS"
+layer_name Expand = codes "EXPAND"
+layer_name Solve = codes "SOLVE"
+
+-- number, layer and place, with a blank between
+abbrev pub fault_text : Fault → List ℕ
+fault_text e = decimal (number_of e.reason) ++ (codes " " ++ (layer_name e.layer ++ (codes " " ++ decimal e.place)))

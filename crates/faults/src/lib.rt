@@ -4,10 +4,12 @@
 
 #![tactic(auto)]
 
-ghost use Rattle.std.specs.Prelude.{◌≡◌};
-ghost use Rattle.faults.specs.Faults.{number_of, of_table, of_read, of_pass, of_settle, of_expand, of_solve};
+ghost use Rattle.std.specs.Prelude.{◌≡◌, Some};
+ghost use Rattle.faults.specs.Faults.{number_of, table_stop, read_stop, solve_stop, of_table, of_read, of_pass, of_settle, of_expand, of_solve, layer_name, fault_text};
 ghost use Rattle.faults.specs.declared.PassFault.TheVariants.{Reading as InPass};
 ghost use Rattle.faults.specs.declared.ExpandFault.TheVariants.{Unread};
+
+use std::fmt;
 
 /// Why a call is declined.
 #[derive(Clone, Copy, PartialEq, Eq, Debug)]
@@ -74,13 +76,15 @@ pub struct Stop {
     pub place: usize,
 }
 
-/// A reason with its layer and its bit place.
+/// A reason with its layer and its bit place: what every fault of a layer is at its innermost.
 #[derive(Clone, Copy, PartialEq, Eq, Debug)]
 pub struct Fault {
     pub reason: Reason,
     pub layer: Layer,
     pub place: usize,
 }
+
+// The faults of table, read and solve have the same fields and are three types: a layer is told by the type.
 
 /// Making or filling an algebra is declined.
 #[derive(Clone, Copy, PartialEq, Eq, Debug)]
@@ -132,35 +136,29 @@ pub struct SolveFault {
 }
 
 impl From<Stop> for TableFault {
-    ghost from_gives = { λ x y. (y.reason ≡ x.reason) × (y.place ≡ x.place) };
+    ghost from_gives = { λ x y. y ≡ table_stop x };
 
     fn from(stop: Stop) -> TableFault {
-        TableFault {
-            reason: stop.reason,
-            place: stop.place,
-        }
+        let Stop { reason, place } = stop;
+        TableFault { reason, place }
     }
 }
 
 impl From<Stop> for ReadFault {
-    ghost from_gives = { λ x y. (y.reason ≡ x.reason) × (y.place ≡ x.place) };
+    ghost from_gives = { λ x y. y ≡ read_stop x };
 
     fn from(stop: Stop) -> ReadFault {
-        ReadFault {
-            reason: stop.reason,
-            place: stop.place,
-        }
+        let Stop { reason, place } = stop;
+        ReadFault { reason, place }
     }
 }
 
 impl From<Stop> for SolveFault {
-    ghost from_gives = { λ x y. (y.reason ≡ x.reason) × (y.place ≡ x.place) };
+    ghost from_gives = { λ x y. y ≡ solve_stop x };
 
     fn from(stop: Stop) -> SolveFault {
-        SolveFault {
-            reason: stop.reason,
-            place: stop.place,
-        }
+        let Stop { reason, place } = stop;
+        SolveFault { reason, place }
     }
 }
 
@@ -188,39 +186,38 @@ impl From<ReadFault> for ExpandFault {
     }
 }
 
-impl TableFault {
-    /// The innermost fault.
-    pub fn innermost(self) -> Fault
-        ensures { result ≡ of_table self }
-    {
+impl From<TableFault> for Fault {
+    ghost from_gives = { λ x y. y ≡ of_table x };
+
+    fn from(fault: TableFault) -> Fault {
+        let TableFault { reason, place } = fault;
         Fault {
-            reason: self.reason,
+            reason,
             layer: Layer::Table,
-            place: self.place,
+            place,
         }
     }
 }
 
-impl ReadFault {
-    /// The innermost fault.
-    pub fn innermost(self) -> Fault
-        ensures { result ≡ of_read self }
-    {
+impl From<ReadFault> for Fault {
+    ghost from_gives = { λ x y. y ≡ of_read x };
+
+    fn from(fault: ReadFault) -> Fault {
+        let ReadFault { reason, place } = fault;
         Fault {
-            reason: self.reason,
+            reason,
             layer: Layer::Read,
-            place: self.place,
+            place,
         }
     }
 }
 
-impl PassFault {
-    /// The innermost fault.
-    pub fn innermost(self) -> Fault
-        ensures { result ≡ of_pass self }
-    {
-        match self {
-            PassFault::Reading(fault) => fault.innermost(),
+impl From<PassFault> for Fault {
+    ghost from_gives = { λ x y. y ≡ of_pass x };
+
+    fn from(fault: PassFault) -> Fault {
+        match fault {
+            PassFault::Reading(inner) => inner.into(),
             PassFault::Declined(reason) => Fault {
                 reason,
                 layer: Layer::Pass,
@@ -230,22 +227,20 @@ impl PassFault {
     }
 }
 
-impl SettleFault {
-    /// The innermost fault.
-    pub fn innermost(self) -> Fault
-        ensures { result ≡ of_settle self }
-    {
-        self.halt.fault.innermost()
+impl From<SettleFault> for Fault {
+    ghost from_gives = { λ x y. y ≡ of_settle x };
+
+    fn from(fault: SettleFault) -> Fault {
+        fault.halt.fault.into()
     }
 }
 
-impl ExpandFault {
-    /// The innermost fault.
-    pub fn innermost(self) -> Fault
-        ensures { result ≡ of_expand self }
-    {
-        match self {
-            ExpandFault::Unread(fault) => fault.innermost(),
+impl From<ExpandFault> for Fault {
+    ghost from_gives = { λ x y. y ≡ of_expand x };
+
+    fn from(fault: ExpandFault) -> Fault {
+        match fault {
+            ExpandFault::Unread(inner) => inner.into(),
             ExpandFault::Refused(reason) => Fault {
                 reason,
                 layer: Layer::Expand,
@@ -255,15 +250,38 @@ impl ExpandFault {
     }
 }
 
-impl SolveFault {
-    /// The innermost fault.
-    pub fn innermost(self) -> Fault
-        ensures { result ≡ of_solve self }
-    {
+impl From<SolveFault> for Fault {
+    ghost from_gives = { λ x y. y ≡ of_solve x };
+
+    fn from(fault: SolveFault) -> Fault {
+        let SolveFault { reason, place } = fault;
         Fault {
-            reason: self.reason,
+            reason,
             layer: Layer::Solve,
-            place: self.place,
+            place,
         }
+    }
+}
+
+impl fmt::Display for Layer {
+    ghost output = { λ layer. Some (layer_name layer) };
+
+    fn fmt<W: fmt::Write>(&self, f: &mut fmt::Formatter<W>) -> fmt::Result {
+        f.write_str(match self {
+            Layer::Table => "TABLE",
+            Layer::Read => "READ",
+            Layer::Pass => "PASS",
+            Layer::Expand => "EXPAND",
+            Layer::Solve => "SOLVE",
+        })
+    }
+}
+
+impl fmt::Display for Fault {
+    ghost output = { λ fault. Some (fault_text fault) };
+
+    fn fmt<W: fmt::Write>(&self, f: &mut fmt::Formatter<W>) -> fmt::Result {
+        let (number, layer, place) = (self.reason.number(), self.layer, self.place);
+        write!(f, "{number} {layer} {place}")
     }
 }

@@ -14,27 +14,6 @@ pub struct FirstCome<'a, T> {
     ghost within: { len ≤ length items.now },
 }
 
-// The record at the place.
-fn item_at<T: Copy>(items: &[T], i: usize) -> T
-    requires { i < length items.now }
-    ensures { result ≡ slice_index_or items.now i result }
-{
-    items[i]
-}
-
-// The place of the first of the `len` records that equals x.
-fn find_in<T: PartialEq>(items: &[T], len: usize, x: &T) -> Option<usize>
-    requires { len ≤ length items.now }
-    ensures { MatchOption result (AllWithin (λ y. false ≡ T.eq y x.now) items.now 0 len) (λ i. (i < len) × HoldsAt (λ y. true ≡ T.eq y x.now) items.now i × AllWithin (λ y. false ≡ T.eq y x.now) items.now 0 i) }
-{
-    for i in 0..len {
-        if items[i].eq(x) {
-            return Some(i);
-        }
-    }
-    None
-}
-
 impl<'a, T: PartialEq + Copy> FirstCome<'a, T> {
     /// An empty list with as many places as the slice has.
     pub fn new(items: &'a mut [T]) -> FirstCome<'a, T>
@@ -48,18 +27,14 @@ impl<'a, T: PartialEq + Copy> FirstCome<'a, T> {
     pub fn get(&self, i: usize) -> Option<T>
         ensures { MatchOption result (self.now.len ≤ i) (λ y. (i < self.now.len) × (y ≡ slice_index_or self.now.items.now i y)) }
     {
-        if i < self.len {
-            Some(item_at(self.items, i))
-        } else {
-            None
-        }
+        self.items[..self.len].get(i).copied()
     }
 
     /// The place at which the record came, or none where it did not come.
     pub fn find(&self, x: &T) -> Option<usize>
         ensures { MatchOption result (AllWithin (λ y. false ≡ T.eq y x.now) self.now.items.now 0 self.now.len) (λ i. (i < self.now.len) × HoldsAt (λ y. true ≡ T.eq y x.now) self.now.items.now i × AllWithin (λ y. false ≡ T.eq y x.now) self.now.items.now 0 i) }
     {
-        find_in(self.items, self.len, x)
+        self.items[..self.len].iter().position(|y| y == x)
     }
 
     /// The record comes: the place at which it came first, or none where it is new and the slice is full.

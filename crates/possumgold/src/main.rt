@@ -7,100 +7,126 @@
 use algebra::Table;
 use bench::Bench;
 use boolean::solving::solve;
-use faults::{Fault, Layer};
-use std::alloc::{AllocError, Global};
-use std::io;
+use faults::Fault;
+use std::alloc::AllocError;
+use std::fmt::Write;
 use std::io::Read;
+use std::{fmt, io};
 use system::instance::Instance;
 
-// The name of a layer as it is printed.
-fn layer_name(layer: Layer) -> &'static str {
-    match layer {
-        Layer::Table => "TABLE",
-        Layer::Read => "READ",
-        Layer::Pass => "PASS",
-        Layer::Expand => "EXPAND",
-        Layer::Solve => "SOLVE",
+// Whether the start is true, and how many variables its Boolean system has.
+#[derive(Clone, Copy)]
+struct Verdict {
+    truth: bool,
+    variables: usize,
+}
+
+impl fmt::Display for Verdict {
+    fn fmt<W: fmt::Write>(&self, f: &mut fmt::Formatter<W>) -> fmt::Result {
+        let truth = if self.truth { "TRUE" } else { "FALSE" };
+        let variables = self.variables;
+        write!(f, "VERDICT {truth} {variables}")
     }
 }
 
-// The line of a refusal.
-fn print_refused(rt: &HostRuntime, fault: Fault) -> io::Result<()> {
-    let number = fault.reason.number();
-    let layer = layer_name(fault.layer);
-    let place = fault.place;
-    println!(rt; "REFUSED {number} {layer} {place}")
+// Why there is no verdict: a call of the library is declined, or the program itself cannot go on.
+#[derive(Drop)]
+enum Stopped {
+    Declined(Fault),
+    Failed(io::Error),
+}
+
+impl From<Fault> for Stopped {
+    fn from(fault: Fault) -> Stopped {
+        Stopped::Declined(fault)
+    }
+}
+
+impl From<io::Error> for Stopped {
+    fn from(error: io::Error) -> Stopped {
+        Stopped::Failed(error)
+    }
+}
+
+impl From<AllocError> for Stopped {
+    fn from(error: AllocError) -> Stopped {
+        Stopped::Failed(error.into())
+    }
+}
+
+// The table file and the system file of an input. Fewer than two bytes are no length and no files; a table file may break off.
+fn split_input(input: &[u8]) -> (&[u8], &[u8]) {
+    let Some((length, files)) = input.split_first_chunk::<2>() else {
+        return (&[], &[]);
+    };
+    let length = usize::from(u16::from_be_bytes(*length));
+    files.split_at_checked(length).unwrap_or((files, &[]))
+}
+
+// Puts the system on the bench, over the algebra of the table, and settles it.
+fn settle(
+    table: &mut Table,
+    bench: &mut Bench,
+    table_file: &[u8],
+    system_file: &[u8],
+) -> Result<(), Fault> {
+    table.fill(table_file)?;
+    bench.load(table, system_file)?;
+    bench.settle(table)?;
+    Ok(())
+}
+
+// Expands the held system and solves it, in lent memory.
+fn decide(
+    table: &Table,
+    bench: &Bench,
+    work: &mut [Instance],
+    file: &mut [u8],
+    truths: &mut [u8],
+) -> Result<Verdict, Fault> {
+    let expansion = bench.expand(table, work, file)?;
+    let boolean = file.get(..expansion.len).unwrap_or(file);
+    let variables = solve(boolean, truths)?;
+    Ok(Verdict {
+        truth: truths.first() == Some(&1),
+        variables,
+    })
 }
 
 // The line of the settled file.
 fn print_settled(rt: &HostRuntime, file: &[u8]) -> io::Result<()> {
     let mut line = String::from_str(rt.alloc(), "SETTLED ")?;
-    let digits = "0123456789ABCDEF".as_bytes();
     for byte in file {
-        line.push(digits[(*byte / 16) as usize] as char)?;
-        line.push(digits[(*byte % 16) as usize] as char)?;
+        write!(line, "{byte:02X}")?;
     }
     println!(rt; "{line}")
 }
 
-// The table file and the system file of an input. Fewer than two bytes are no length and no files; a table file may break off.
-fn split_input(input: &[u8]) -> (&[u8], &[u8]) {
-    if input.len() < 2 {
-        return (&input[0..0], &input[0..0]);
-    }
-    let length = 256 * input[0] as usize + input[1] as usize;
-    let end = length.min(input.len() - 2) + 2;
-    (&input[2..end], &input[end..])
-}
-
-// Expands the held system and solves it.
-fn print_verdict(rt: &HostRuntime, bench: &Bench, table: &Table) -> io::Result<()> {
-    let heap = rt.alloc();
-    let mut work = vec![in heap; Instance {
-        equation: 0,
-        values: [0; 15]
-    }; 4096]?;
-    let mut file = vec![in heap; 0u8; 65535]?;
-    let mut truths = vec![in heap; 0u8; 4096]?;
-    let expansion = match bench.expand(table, work.as_mut_slice(), file.as_mut_slice()) {
-        Ok(expansion) => expansion,
-        Err(fault) => return print_refused(rt, fault.innermost()),
-    };
-    let Some(boolean) = file.as_slice().get(0..expansion.len) else {
-        return Ok(());
-    };
-    match solve(boolean, truths.as_mut_slice()) {
-        Ok(count) => {
-            let verdict = match truths.first() {
-                Some(1) => "TRUE",
-                _ => "FALSE",
-            };
-            println!(rt; "VERDICT {verdict} {count}")
-        }
-        Err(fault) => print_refused(rt, fault.innermost()),
-    }
-}
-
-// Answers an input.
-fn answer(rt: &HostRuntime, input: &[u8]) -> io::Result<()> {
+// Prints the settled file of an input, and tells the verdict.
+fn answer(rt: &HostRuntime, input: &[u8]) -> Result<Verdict, Stopped> {
     let (table_file, system_file) = split_input(input);
     let mut table = Table::new();
-    if let Err(fault) = table.fill(table_file) {
-        return print_refused(rt, fault.innermost());
-    }
     let mut bench = Bench::new();
-    if let Err(fault) = bench.load(&table, system_file) {
-        return print_refused(rt, fault.innermost());
-    }
-    if let Err(fault) = bench.settle(&table) {
-        return print_refused(rt, fault.innermost());
-    }
+    settle(&mut table, &mut bench, table_file, system_file)?;
     print_settled(rt, bench.held())?;
-    print_verdict(rt, &bench, &table)
+    let heap = rt.alloc();
+    let nobody = Instance {
+        equation: 0,
+        values: [0; 15],
+    };
+    let mut work = vec![in heap; nobody; 4096]?;
+    let mut file = vec![in heap; 0u8; 65535]?;
+    let mut truths = vec![in heap; 0u8; 4096]?;
+    let verdict = decide(&table, &bench, &mut work, &mut file, &mut truths)?;
+    Ok(verdict)
 }
 
 fn main(rt: HostRuntime) -> io::Result<()> {
     let mut input = Vec::new(rt.alloc());
     rt.stdin().read_to_end(&mut input)?;
-    answer(&rt, input.as_slice())
+    match answer(&rt, &input) {
+        Ok(verdict) => println!(rt; "{verdict}"),
+        Err(Stopped::Declined(fault)) => println!(rt; "REFUSED {fault}"),
+        Err(Stopped::Failed(error)) => Err(error),
+    }
 }

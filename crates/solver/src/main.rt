@@ -3,23 +3,24 @@
 #![tactic(auto)]
 
 use boolean::solving::solve;
+use faults::Fault;
+use std::fmt::Write;
 use std::io;
 use std::io::Read;
 
 fn answer(rt: &HostRuntime, file: &[u8]) -> io::Result<()> {
     let mut truths = vec![in rt.alloc(); 0u8; 4096]?;
-    match solve(file, truths.as_mut_slice()) {
+    match solve(file, &mut truths) {
         Ok(count) => {
             let mut line = String::from_str(rt.alloc(), "TRUTHS ")?;
-            for truth in truths.as_slice().iter().take(count) {
-                line.push(if *truth == 1 { '1' } else { '0' })?;
+            for truth in truths.iter().take(count) {
+                write!(line, "{truth}")?;
             }
             println!(rt; "{line}")
         }
         Err(fault) => {
-            let number = fault.reason.number();
-            let place = fault.place;
-            println!(rt; "REFUSED {number} SOLVE {place}")
+            let fault = Fault::from(fault);
+            println!(rt; "REFUSED {fault}")
         }
     }
 }
@@ -27,5 +28,5 @@ fn answer(rt: &HostRuntime, file: &[u8]) -> io::Result<()> {
 fn main(rt: HostRuntime) -> io::Result<()> {
     let mut input = Vec::new(rt.alloc());
     rt.stdin().read_to_end(&mut input)?;
-    answer(&rt, input.as_slice())
+    answer(&rt, &input)
 }

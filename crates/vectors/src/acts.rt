@@ -1,7 +1,8 @@
-//! Commands that call the library on the bench and on files.
-use crate::desk::{Desk, part};
-use crate::fields::read_numbers;
-use crate::says::{fill_buffer, kept_behind, kept_file, refused, result_text, say, shown};
+//! Commands that call the library on the bench and on files, and what they come to.
+use crate::desk::Desk;
+use crate::says::{
+    FILLING, Shown, bench_kept, buffer_kept, each_beginning, refused, refused_pass, result_text,
+};
 use algebra::Algebra;
 use bench::Bench;
 use expansion::Expansion;
@@ -23,76 +24,59 @@ const NOBODY: Instance = Instance {
 
 // What the bench holds after a call that was obeyed.
 fn held_text(heap: Global, bench: &Bench) -> Result<String, AllocError> {
-    let text = shown(heap, bench.held())?;
-    format!(in heap; "holds {text}")
+    let file = Shown(bench.held());
+    format!(in heap; "holds {file}")
 }
 
 /// Loads the file.
-pub fn load<G: Algebra>(rt: &HostRuntime, desk: &mut Desk, alg: &G, label: &str) -> io::Result<()> {
-    let heap = rt.alloc();
+pub fn load<G: Algebra>(heap: Global, desk: &mut Desk, alg: &G) -> Result<String, AllocError> {
     let before = desk.bench;
-    let mut bench = desk.bench;
-    let outcome = match bench.load(alg, desk.made()) {
-        Ok(()) => held_text(heap, &bench)?,
-        Err(fault) => {
-            let text = refused(heap, fault.innermost())?;
-            let kept = kept_file(before.held(), bench.held());
-            format!(in heap; "{text}, {kept}")?
-        }
-    };
+    let mut bench = before;
+    let result = bench.load(alg, desk.made());
     desk.bench = bench;
-    say(rt, label, outcome.as_str())
+    match result {
+        Ok(()) => held_text(heap, &bench),
+        Err(fault) => bench_kept(
+            heap,
+            refused(heap, fault.into())?,
+            before.held(),
+            bench.held(),
+        ),
+    }
 }
 
 /// Loads each shorter beginning of the file onto a new bench.
 pub fn cut<G: Algebra>(rt: &HostRuntime, desk: &Desk, alg: &G, label: &str) -> io::Result<()> {
-    let whole = desk.made();
-    for len in 0..whole.len() {
+    let heap = rt.alloc();
+    each_beginning(rt, desk.made(), label, |part| {
         let mut bench = Bench::new();
-        let outcome = match bench.load(alg, part(whole, len)) {
-            Ok(()) => held_text(rt.alloc(), &bench)?,
-            Err(fault) => refused(rt.alloc(), fault.innermost())?,
-        };
-        println!(rt; "{label}, {len} bytes: {outcome}")?;
-    }
-    Ok(())
-}
-
-// The letter that a command names, or a blank.
-fn letter_of(text: &str) -> char {
-    text.chars().next().unwrap_or(' ')
-}
-
-// Where a pass's fault comes from.
-fn pass_text(heap: Global, fault: PassFault) -> Result<String, AllocError> {
-    let text = refused(heap, fault.innermost())?;
-    match fault {
-        PassFault::Reading(_) => format!(in heap; "{text} inside a pass"),
-        PassFault::Declined(_) => Ok(text),
-    }
+        match bench.load(alg, part) {
+            Ok(()) => held_text(heap, &bench),
+            Err(fault) => refused(heap, fault.into()),
+        }
+    })
 }
 
 /// Runs the pass of a letter on the bench.
 pub fn run<G: Algebra>(
-    rt: &HostRuntime,
+    heap: Global,
     desk: &mut Desk,
     alg: &G,
-    rest: &str,
-    label: &str,
-) -> io::Result<()> {
-    let heap = rt.alloc();
+    letter: char,
+) -> Result<String, AllocError> {
     let before = desk.bench;
-    let mut bench = desk.bench;
-    let outcome = match bench.run_letter(alg, letter_of(rest)) {
-        Ok(()) => held_text(heap, &bench)?,
-        Err(fault) => {
-            let text = pass_text(heap, fault)?;
-            let kept = kept_file(before.held(), bench.held());
-            format!(in heap; "{text}, {kept}")?
-        }
-    };
+    let mut bench = before;
+    let result = bench.run_letter(alg, letter);
     desk.bench = bench;
-    say(rt, label, outcome.as_str())
+    match result {
+        Ok(()) => held_text(heap, &bench),
+        Err(fault) => bench_kept(
+            heap,
+            refused_pass(heap, fault)?,
+            before.held(),
+            bench.held(),
+        ),
+    }
 }
 
 // The pass of a letter on a file, into a buffer.
@@ -113,130 +97,94 @@ fn apply_letter<G: Algebra>(
 
 /// Runs the pass of a letter on the file, into a buffer of the length given.
 pub fn apply<G: Algebra>(
-    rt: &HostRuntime,
-    desk: &mut Desk,
+    heap: Global,
+    desk: &Desk,
     alg: &G,
-    rest: &str,
-    label: &str,
-) -> io::Result<()> {
-    let heap = rt.alloc();
-    let room = read_numbers(rest).values[0] as usize;
-    let mut buffer = vec![in heap; 0u8; room.min(65536)]?;
-    fill_buffer(buffer.as_mut_slice());
-    let Some(result) = apply_letter(alg, letter_of(rest), desk.made(), buffer.as_mut_slice()) else {
-        return say(rt, label, "no such pass");
-    };
-    let outcome = match result {
-        Ok(len) => result_text(heap, buffer.as_slice(), len)?,
-        Err(fault) => {
-            let text = pass_text(heap, fault)?;
-            let kept = kept_behind(buffer.as_slice(), 0);
-            format!(in heap; "{text}, {kept}")?
-        }
-    };
-    say(rt, label, outcome.as_str())
+    letter: char,
+    room: usize,
+) -> Result<String, AllocError> {
+    let mut buffer = vec![in heap; FILLING; room]?;
+    match apply_letter(alg, letter, desk.made(), &mut buffer) {
+        None => String::from_str(heap, "no such pass"),
+        Some(Ok(len)) => result_text(heap, &buffer, len),
+        Some(Err(fault)) => buffer_kept(heap, refused_pass(heap, fault)?, &buffer),
+    }
 }
 
 /// Settles what the bench holds.
-pub fn settle<G: Algebra>(
-    rt: &HostRuntime,
-    desk: &mut Desk,
-    alg: &G,
-    label: &str,
-) -> io::Result<()> {
-    let heap = rt.alloc();
+pub fn settle<G: Algebra>(heap: Global, desk: &mut Desk, alg: &G) -> Result<String, AllocError> {
     let before = desk.bench;
-    let mut bench = desk.bench;
-    let outcome = match bench.settle(alg) {
+    let mut bench = before;
+    let result = bench.settle(alg);
+    desk.bench = bench;
+    match result {
         Ok(rounds) => {
             let text = held_text(heap, &bench)?;
-            format!(in heap; "{rounds} rounds, {text}")?
+            format!(in heap; "{rounds} rounds, {text}")
         }
         Err(fault) => {
-            let text = pass_text(heap, fault.halt.fault)?;
+            let text = refused_pass(heap, fault.halt.fault)?;
             let letter = fault.halt.letter;
             let round = fault.halt.round;
-            let kept = kept_file(before.held(), bench.held());
-            format!(in heap; "{text} of letter {letter} in round {round}, {kept}")?
+            let refusal = format!(in heap; "{text} of letter {letter} in round {round}")?;
+            bench_kept(heap, refusal, before.held(), bench.held())
         }
-    };
-    desk.bench = bench;
-    say(rt, label, outcome.as_str())
+    }
 }
 
-// What an expansion came to, in a buffer of the length given.
+// What an expansion into a buffer came to.
 fn expansion_text(
     heap: Global,
-    res: Result<Expansion, ExpandFault>,
+    outcome: Result<Expansion, ExpandFault>,
     buffer: &[u8],
 ) -> Result<String, AllocError> {
-    match res {
+    match outcome {
         Ok(expansion) => {
             let variables = expansion.variables;
             let text = result_text(heap, buffer, expansion.len)?;
             format!(in heap; "{variables} variables, {text}")
         }
-        Err(fault) => {
-            let text = refused(heap, fault.innermost())?;
-            let kept = kept_behind(buffer, 0);
-            format!(in heap; "{text}, {kept}")
-        }
+        Err(fault) => buffer_kept(heap, refused(heap, fault.into())?, buffer),
     }
 }
 
 /// Expands what the bench holds, with work memory and buffer of the sizes given; the file becomes the expansion.
 pub fn expand<G: Algebra>(
-    rt: &HostRuntime,
+    heap: Global,
     desk: &mut Desk,
     alg: &G,
-    places: u32,
-    room: u32,
-    label: &str,
-) -> io::Result<()> {
-    let heap = rt.alloc();
-    let mut work = vec![in heap; NOBODY; (places as usize).min(65536)]?;
-    let mut buffer = vec![in heap; 0u8; (room as usize).min(65536)]?;
-    fill_buffer(buffer.as_mut_slice());
+    places: usize,
+    room: usize,
+) -> Result<String, AllocError> {
+    let mut work = vec![in heap; NOBODY; places]?;
+    let mut buffer = vec![in heap; FILLING; room]?;
     let bench = desk.bench;
-    let result = bench.expand(alg, work.as_mut_slice(), buffer.as_mut_slice());
+    let result = bench.expand(alg, &mut work, &mut buffer);
     if let Ok(expansion) = result {
-        desk.take(part(buffer.as_slice(), expansion.len));
+        desk.take(buffer.get(..expansion.len).unwrap_or(&buffer));
     }
-    let outcome = expansion_text(heap, result, buffer.as_slice())?;
-    say(rt, label, outcome.as_str())
+    expansion_text(heap, result, &buffer)
 }
 
 /// Expands the file, which no bench holds.
 pub fn draw<G: Algebra>(
-    rt: &HostRuntime,
+    heap: Global,
     desk: &Desk,
     alg: &G,
-    places: u32,
-    room: u32,
-    label: &str,
-) -> io::Result<()> {
-    let heap = rt.alloc();
-    let mut work = vec![in heap; NOBODY; (places as usize).min(65536)]?;
-    let mut buffer = vec![in heap; 0u8; (room as usize).min(65536)]?;
-    fill_buffer(buffer.as_mut_slice());
-    let result = expansion::expand(alg, desk.made(), work.as_mut_slice(), buffer.as_mut_slice());
-    let outcome = expansion_text(heap, result, buffer.as_slice())?;
-    say(rt, label, outcome.as_str())
+    places: usize,
+    room: usize,
+) -> Result<String, AllocError> {
+    let mut work = vec![in heap; NOBODY; places]?;
+    let mut buffer = vec![in heap; FILLING; room]?;
+    let result = expansion::expand(alg, desk.made(), &mut work, &mut buffer);
+    expansion_text(heap, result, &buffer)
 }
 
 /// Solves the file, into a buffer of the length given.
-pub fn solve(rt: &HostRuntime, desk: &mut Desk, rest: &str, label: &str) -> io::Result<()> {
-    let heap = rt.alloc();
-    let room = read_numbers(rest).values[0] as usize;
-    let mut truths = vec![in heap; 0u8; room.min(65536)]?;
-    fill_buffer(truths.as_mut_slice());
-    let outcome = match boolean::solving::solve(desk.made(), truths.as_mut_slice()) {
-        Ok(count) => result_text(heap, truths.as_slice(), count)?,
-        Err(fault) => {
-            let text = refused(heap, fault.innermost())?;
-            let kept = kept_behind(truths.as_slice(), 0);
-            format!(in heap; "{text}, {kept}")?
-        }
-    };
-    say(rt, label, outcome.as_str())
+pub fn solve(heap: Global, desk: &Desk, room: usize) -> Result<String, AllocError> {
+    let mut truths = vec![in heap; FILLING; room]?;
+    match boolean::solving::solve(desk.made(), &mut truths) {
+        Ok(count) => result_text(heap, &truths, count),
+        Err(fault) => buffer_kept(heap, refused(heap, fault.into())?, &truths),
+    }
 }

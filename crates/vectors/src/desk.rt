@@ -1,6 +1,7 @@
 //! What a script works on.
 use algebra::{Counting, Table};
 use bench::Bench;
+use bits::deliver;
 
 /// Which algebra is used.
 #[derive(Clone, Copy)]
@@ -35,25 +36,22 @@ impl<'a> Desk<'a> {
 
     /// The file that the script made.
     pub fn made(&self) -> &[u8] {
-        let len = bytes_of(self.bits);
-        part(self.file, len)
+        self.file.get(..self.bits.div_ceil(8)).unwrap_or(self.file)
     }
 
     /// The file has that many bytes: cut, or with zeros behind.
     pub fn set_length(&mut self, len: usize) {
-        let old = bytes_of(self.bits);
-        for i in 0..self.file.len() {
-            if i >= old {
-                self.file[i] = 0;
-            }
+        let old = self.bits.div_ceil(8);
+        if let Some(rest) = self.file.get_mut(old..) {
+            rest.fill(0);
         }
         self.bits = 8 * len.min(65536);
     }
 
     /// The byte of the file becomes another.
     pub fn set_byte(&mut self, i: usize, value: u32) {
-        if i < self.file.len() {
-            self.file[i] = (value & 0xff) as u8;
+        if let Some(byte) = self.file.get_mut(i) {
+            *byte = (value & 0xff) as u8;
         }
     }
 
@@ -63,33 +61,10 @@ impl<'a> Desk<'a> {
         self.take(bench.held());
     }
 
-    /// The file becomes another.
+    /// The file becomes another, if there is room for it.
     pub fn take(&mut self, bytes: &[u8]) {
-        copy_to(bytes, self.file);
-        self.bits = 8 * bytes.len().min(65536);
-    }
-}
-
-// How many bytes hold the bits.
-fn bytes_of(bits: usize) -> usize {
-    if bits % 8 == 0 {
-        bits / 8
-    } else {
-        bits / 8 + 1
-    }
-}
-
-/// The first items, or all where there are fewer.
-pub fn part<T>(items: &[T], len: usize) -> &[T] {
-    if len <= items.len() {
-        &items[0..len]
-    } else {
-        items
-    }
-}
-
-fn copy_to(from: &[u8], to: &mut [u8]) {
-    for i in 0..from.len().min(to.len()) {
-        to[i] = from[i];
+        if let Ok(len) = deliver(self.file, bytes) {
+            self.bits = 8 * len.min(65536);
+        }
     }
 }

@@ -9,6 +9,7 @@ mod acts;
 mod asks;
 mod desk;
 mod fields;
+mod line;
 mod says;
 
 use acts::{apply, cut, draw, expand, load, run, settle, solve};
@@ -16,70 +17,55 @@ use algebra::{Algebra, Level};
 use asks::{ask, count_sorts, cut_table, fill_counting, fill_table};
 use bench::Bench;
 use desk::{Chosen, Desk};
-use fields::{put_again, put_fields, put_hex, read_numbers};
-use says::say;
+use fields::{put_again, put_fields, put_hex};
+use line::Line;
 use std::io;
 use std::io::Read;
 use std::str::from_utf8;
 
 // The commands that question an algebra or use it.
-fn act<G: Algebra>(
-    rt: &HostRuntime,
-    desk: &mut Desk,
-    alg: &G,
-    verb: &str,
-    rest: &str,
-    label: &str,
-) -> io::Result<()> {
-    let numbers = read_numbers(rest);
-    let (first, second) = (numbers.values[0], numbers.values[1]);
-    match verb {
-        "load" => load(rt, desk, alg, label),
-        "run" => run(rt, desk, alg, rest, label),
-        "apply" => apply(rt, desk, alg, rest, label),
-        "settle" => settle(rt, desk, alg, label),
-        "expand" => expand(rt, desk, alg, first, second, label),
-        "draw" => draw(rt, desk, alg, first, second, label),
-        "cut" => cut(rt, desk, alg, label),
-        "sorts" => count_sorts(rt, alg, label),
-        "ask" => ask(rt, alg, &numbers, label),
-        _ => say(rt, "unknown command", verb),
-    }
+fn act<G: Algebra>(rt: &HostRuntime, desk: &mut Desk, alg: &G, line: &Line) -> io::Result<()> {
+    let heap = rt.alloc();
+    let outcome = match line.verb {
+        "load" => load(heap, desk, alg)?,
+        "run" => run(heap, desk, alg, line.letter())?,
+        "apply" => apply(heap, desk, alg, line.letter(), line.room(0))?,
+        "settle" => settle(heap, desk, alg)?,
+        "expand" => expand(heap, desk, alg, line.room(0), line.room(1))?,
+        "draw" => draw(heap, desk, alg, line.room(0), line.room(1))?,
+        "sorts" => count_sorts(heap, alg)?,
+        "ask" => ask(heap, alg, line)?,
+        "cut" => return cut(rt, desk, alg, line.label),
+        verb => return println!(rt; "unknown command: {verb}"),
+    };
+    line.say(rt, &outcome)
 }
 
 // The same over the algebra that is chosen.
-fn act_on_chosen(
-    rt: &HostRuntime,
-    desk: &mut Desk,
-    verb: &str,
-    rest: &str,
-    label: &str,
-) -> io::Result<()> {
+fn act_on_chosen(rt: &HostRuntime, desk: &mut Desk, line: &Line) -> io::Result<()> {
     match desk.chosen {
         Chosen::Counting => {
             let counting = desk.counting;
-            act(rt, desk, &counting, verb, rest, label)
+            act(rt, desk, &counting, line)
         }
-        Chosen::Level => act(rt, desk, &Level, verb, rest, label),
+        Chosen::Level => act(rt, desk, &Level, line),
         Chosen::Table => {
             let table = desk.table;
-            act(rt, desk, &table, verb, rest, label)
+            act(rt, desk, &table, line)
         }
     }
 }
 
 // The commands that make the file; false where the command is none of them.
-fn prepare(desk: &mut Desk, verb: &str, rest: &str) -> bool {
-    let numbers = read_numbers(rest);
-    let (first, second) = (numbers.values[0], numbers.values[1]);
+fn prepare(desk: &mut Desk, line: &Line) -> bool {
     let bits = desk.bits;
-    match verb {
-        "bits" => desk.bits = put_fields(desk.file, 0, rest),
-        "more" => desk.bits = put_fields(desk.file, bits, rest),
-        "again" => desk.bits = put_again(desk.file, bits, rest),
-        "hex" => desk.bits = put_hex(desk.file, rest),
-        "length" => desk.set_length(first as usize),
-        "byte" => desk.set_byte(first as usize, second),
+    match line.verb {
+        "bits" => desk.bits = put_fields(desk.file, 0, line.rest),
+        "more" => desk.bits = put_fields(desk.file, bits, line.rest),
+        "again" => desk.bits = put_again(desk.file, bits, line.rest),
+        "hex" => desk.bits = put_hex(desk.file, line.rest),
+        "length" => desk.set_length(line.room(0)),
+        "byte" => desk.set_byte(line.number(0) as usize, line.number(1)),
         "held" => desk.take_held(),
         "new" => desk.bench = Bench::new(),
         "level" => desk.chosen = Chosen::Level,
@@ -89,22 +75,19 @@ fn prepare(desk: &mut Desk, verb: &str, rest: &str) -> bool {
 }
 
 // One line of the script.
-fn run_line(rt: &HostRuntime, desk: &mut Desk, line: &str) -> io::Result<()> {
-    if line.is_empty() || line.starts_with('#') {
+fn run_line(rt: &HostRuntime, desk: &mut Desk, line: &Line) -> io::Result<()> {
+    let heap = rt.alloc();
+    if prepare(desk, line) {
         return Ok(());
     }
-    let (command, label) = line.split_once(" | ").unwrap_or((line, ""));
-    let (verb, rest) = command.split_once(' ').unwrap_or((command, ""));
-    if prepare(desk, verb, rest) {
-        return Ok(());
-    }
-    match verb {
-        "counting" => fill_counting(rt, desk, rest, label),
-        "table" => fill_table(rt, desk, label),
-        "cut-table" => cut_table(rt, desk, label),
-        "solve" => solve(rt, desk, rest, label),
-        _ => act_on_chosen(rt, desk, verb, rest, label),
-    }
+    let outcome = match line.verb {
+        "counting" => fill_counting(heap, desk, line)?,
+        "table" => fill_table(heap, desk)?,
+        "solve" => solve(heap, desk, line.room(0))?,
+        "cut-table" => return cut_table(rt, desk, line.label),
+        _ => return act_on_chosen(rt, desk, line),
+    };
+    line.say(rt, &outcome)
 }
 
 fn main(rt: HostRuntime) -> io::Result<()> {
@@ -112,12 +95,14 @@ fn main(rt: HostRuntime) -> io::Result<()> {
     let mut script = Vec::new(heap);
     rt.stdin().read_to_end(&mut script)?;
     let mut file = vec![in heap; 0u8; 65536]?;
-    let mut desk = Desk::new(file.as_mut_slice());
-    let Ok(text) = from_utf8(script.as_slice()) else {
-        return say(&rt, "the script", "is no text");
+    let mut desk = Desk::new(&mut file);
+    let Ok(text) = from_utf8(&script) else {
+        return println!(rt; "the script: is no text");
     };
     for line in text.lines() {
-        run_line(&rt, &mut desk, line)?;
+        if !line.is_empty() && !line.starts_with('#') {
+            run_line(&rt, &mut desk, &Line::of(line))?;
+        }
     }
     Ok(())
 }

@@ -1,37 +1,27 @@
 //! How outcomes are printed.
-use crate::desk::part;
-use faults::{Fault, Layer};
+use faults::{Fault, PassFault};
 use std::alloc::{AllocError, Global};
-use std::io;
+use std::{fmt, io};
 
 /// What a buffer is filled with before a call.
 pub const FILLING: u8 = 0xEE;
 
-/// Prints the outcome of a case, if it has a label.
-pub fn say(rt: &HostRuntime, label: &str, outcome: &str) -> io::Result<()> {
-    if label.is_empty() {
+/// Bytes in hexadecimal, or their count and check sum where they are many.
+#[derive(Clone, Copy)]
+pub struct Shown<'a>(pub &'a [u8]);
+
+impl<'a> fmt::Display for Shown<'a> {
+    fn fmt<W: fmt::Write>(&self, f: &mut fmt::Formatter<W>) -> fmt::Result {
+        let count = self.0.len();
+        if count > 40 {
+            let sum = check_sum(self.0);
+            return write!(f, "{count} bytes with check sum {sum}");
+        }
+        for byte in self.0 {
+            write!(f, "{byte:02X}")?;
+        }
         Ok(())
-    } else {
-        println!(rt; "{label}: {outcome}")
     }
-}
-
-fn layer_name(layer: Layer) -> &'static str {
-    match layer {
-        Layer::Table => "TABLE",
-        Layer::Read => "READ",
-        Layer::Pass => "PASS",
-        Layer::Expand => "EXPAND",
-        Layer::Solve => "SOLVE",
-    }
-}
-
-/// A refusal: number, layer and place.
-pub fn refused(heap: Global, fault: Fault) -> Result<String, AllocError> {
-    let number = fault.reason.number();
-    let layer = layer_name(fault.layer);
-    let place = fault.place;
-    format!(in heap; "refused {number} {layer} {place}")
 }
 
 // Two sums over the bytes, as Adler's.
@@ -45,50 +35,69 @@ fn check_sum(bytes: &[u8]) -> u32 {
     (high % 65521) * 65536 + low % 65521
 }
 
-/// The bytes in hexadecimal, or their count and check sum where they are many.
-pub fn shown(heap: Global, bytes: &[u8]) -> Result<String, AllocError> {
-    let count = bytes.len();
-    if count > 40 {
-        let sum = check_sum(bytes);
-        return format!(in heap; "{count} bytes with check sum {sum}");
-    }
-    let mut text = String::new(heap);
-    for byte in bytes {
-        let b = *byte;
-        text.push_str(format!(in heap; "{b:02X}")?.as_str())?;
-    }
-    Ok(text)
+/// A refusal: number, layer and place.
+pub fn refused(heap: Global, fault: Fault) -> Result<String, AllocError> {
+    format!(in heap; "refused {fault}")
 }
 
-/// Whether all bytes behind the first ones are as they were filled.
-pub fn kept_behind(bytes: &[u8], len: usize) -> &'static str {
-    for i in 0..bytes.len() {
-        if i >= len && bytes[i] != FILLING {
-            return "BUFFER WRITTEN";
-        }
+/// A refusal of a pass, which may carry a reading fault.
+pub fn refused_pass(heap: Global, fault: PassFault) -> Result<String, AllocError> {
+    let text = refused(heap, fault.into())?;
+    match fault {
+        PassFault::Reading(_) => format!(in heap; "{text} inside a pass"),
+        PassFault::Declined(_) => Ok(text),
     }
-    "rest kept"
 }
 
-/// Whether two files are equal, the one before and the one after a refusal.
-pub fn kept_file(before: &[u8], after: &[u8]) -> &'static str {
-    if before == after {
+/// A refusal, and whether the file on the bench is the one before.
+pub fn bench_kept(
+    heap: Global,
+    refusal: String,
+    before: &[u8],
+    after: &[u8],
+) -> Result<String, AllocError> {
+    let kept = if before == after {
         "bench kept"
     } else {
         "BENCH CHANGED"
+    };
+    format!(in heap; "{refusal}, {kept}")
+}
+
+// Whether all bytes behind the first ones are as they were filled.
+fn rest_kept(buffer: &[u8], len: usize) -> &'static str {
+    if buffer.iter().skip(len).all(|byte| *byte == FILLING) {
+        "rest kept"
+    } else {
+        "BUFFER WRITTEN"
     }
 }
 
-/// Fills a buffer.
-pub fn fill_buffer(bytes: &mut [u8]) {
-    for i in 0..bytes.len() {
-        bytes[i] = FILLING;
-    }
+/// A refusal, and whether all of the buffer is as it was.
+pub fn buffer_kept(heap: Global, refusal: String, buffer: &[u8]) -> Result<String, AllocError> {
+    let kept = rest_kept(buffer, 0);
+    format!(in heap; "{refusal}, {kept}")
 }
 
 /// The result in front of a buffer, and whether the rest is as it was.
 pub fn result_text(heap: Global, buffer: &[u8], len: usize) -> Result<String, AllocError> {
-    let text = shown(heap, part(buffer, len))?;
-    let kept = kept_behind(buffer, len);
-    format!(in heap; "{text}, {kept}")
+    let result = Shown(buffer.get(..len).unwrap_or(buffer));
+    let kept = rest_kept(buffer, len);
+    format!(in heap; "{result}, {kept}")
+}
+
+/// Prints what comes of each shorter beginning of a file.
+pub fn each_beginning<F: Fn(&[u8]) -> Result<String, AllocError>>(
+    rt: &HostRuntime,
+    file: &[u8],
+    label: &str,
+    outcome_of: F,
+) -> io::Result<()>
+    requires { F.IsAlwaysCallable outcome_of }
+{
+    for len in 0..file.len() {
+        let outcome = outcome_of(&file[..len])?;
+        println!(rt; "{label}, {len} bytes: {outcome}")?;
+    }
+    Ok(())
 }

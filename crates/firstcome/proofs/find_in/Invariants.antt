@@ -1,6 +1,0 @@
-use Rattle.std.proofs.Common.{◌≡◌, false}
-use Rattle.std.specs.List.{AllWithin}
-use Rattle.firstcome.proofs.find_in.Given as goal
-
-abbrev pub invariant-loop-i : goal.invariant-loop-i
-invariant-loop-i g l = AllWithin (λ y. false ≡ g.T.PartialEq.eq y l.x) l.items 0 l.i
