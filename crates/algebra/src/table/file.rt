@@ -185,11 +185,6 @@ pub fn read_table(file: &[u8]) -> Result<Table, TableFault>
             place: 0,
         });
     }
-    let mut cursor = Cursor { bytes: file, at: 0 };
-    let table = read_whole(&mut cursor);
-    let Cursor {
-        bytes: _bytes,
-        at: _at,
-    } = cursor;
-    Ok(table?)
+    let table = read_whole(&mut Cursor { bytes: file, at: 0 })?;
+    Ok(table)
 }
