@@ -76,11 +76,11 @@ impl Algebra for Level {
     }
 
     fn arity(&self, op: u8) -> Option<u8> {
-        if op < 3 { Some(2) } else { None }
+        (op < 3).then_some(2)
     }
 
     fn arg_sort(&self, op: u8, k: u8) -> Option<u8> {
-        if op < 3 && k < 2 { Some(1) } else { None }
+        (op < 3 && k < 2).then_some(1)
     }
 
     fn result_sort(&self, op: u8) -> Option<u8> {
