@@ -33,12 +33,6 @@ within_uneven (z ∷ zs) (x ∷ xs) h = ap (λ b. nat_lt x z && b) (within_uneve
     go true = refl
     go false = refl
 
-drop_all : (l : List ℕ) (k : ℕ) → length l ≤ k → drop k l ≡ []
-drop_all [] zero h = refl
-drop_all [] (suc k) h = refl
-drop_all (x ∷ l) zero h = absurd (omega arith)
-drop_all (x ∷ l) (suc k) h = drop_all l k (omega arith)
-
 -- no place is too large for its type
 pub place_small : (n z x k : ℕ) → n < 65536 ^ k → x < z → z ≤ 65536 → n * z + x < 65536 ^ (k + 1)
 place_small n z x k hn hx hz =
@@ -79,9 +73,6 @@ value_at values offset m p h = get_or-take m (drop offset values) p 0 h ∙ get_
 -- one factor more of a product
 pub product_next : (zs : List ℕ) (k t : ℕ) → k < length zs → t * product (drop k zs) ≡ t * slice_index zs k * product (drop (k + 1) zs)
 product_next zs k t h = rw add-one (ap (λ l. t * product l) (drop-cons zs k 0 h) ∙ sym (mul_assoc t (slice_index zs k) (product (drop (suc k) zs))))
-
-pub product_end : (zs : List ℕ) (k t : ℕ) → length zs ≤ k → t * product (drop k zs) ≡ t
-product_end zs k t h = ap (λ l. t * product l) (drop_all zs k h) ∙ (let e : t * 1 ≡ t = omega arith in e)
 
 pub product_small : (t z k : ℕ) → t ≤ 65536 ^ k → z ≤ 65536 → t * z ≤ 65536 ^ (k + 1)
 product_small t z k ht hz =

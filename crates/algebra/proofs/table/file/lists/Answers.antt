@@ -1,8 +1,8 @@
-use Rattle.std.proofs.Common.{◌≡◌, ℕ, ◌+◌, ◌*◌, ◌^◌, ◌<◌, ◌≤◌, ltb, List, length, get_or, drop, sym, ap, ◌∙◌, arith, rules}
+use Rattle.std.proofs.Common.{◌≡◌, ℕ, ◌+◌, ◌*◌, ◌^◌, ◌<◌, ◌≤◌, ltb, List, length, get_or, drop, ap, ◌∙◌, arith, rules}
 use Rattle.std.proofs.lemmas.Bool.{ltb-true}
 use Rattle.definitions.specs.Lists.{product}
 use Rattle.definitions.specs.Alg.{sized}
-use Rattle.algebra.specs.Places.{each_at, sized_at, sized_long, product_next, product_end, product_small, power_le}
+use Rattle.algebra.specs.Places.{each_at, sized_at, sized_long, product_next, product_small, power_le}
 use Rattle.algebra.proofs.table.file.lists.Goals as goal
 
 pub bounds-sizes-sort : goal.bounds-sizes-sort
