@@ -1,14 +1,14 @@
 -- What the grammar accepts keeps to the limits.
-use Rattle.std.proofs.Common.{◌≡◌, ℕ, suc, ◌+◌, ◌*◌, ◌^◌, ◌<◌, ◌≤◌, Bool, true, false, ◌&&◌, ◌||◌, eqb, ltb, leb, List, ◌∷◌, length, get_or, sym, refl, ap, ◌∙◌, subst, arith}
-use Rattle.std.proofs.lemmas.Bool.{le-leb, le-ltb, ne_eqb, or_from, and_from}
+use Rattle.std.proofs.Common.{◌≡◌, ℕ, suc, ◌+◌, ◌*◌, ◌^◌, ◌<◌, Bool, true, false, ◌&&◌, eqb, ltb, leb, List, ◌∷◌, length, get_or, sym, refl, ap, ◌∙◌, subst, arith}
+use Rattle.std.proofs.lemmas.Bool.{le-leb, and_from}
 use Rattle.faults.specs.declared.Reason.{Reason}
-use Rattle.faults.specs.declared.Reason.TheVariants.{BadLength, NoSuchSort, ValueTooLarge, TruthSortSize, EndsInField}
+use Rattle.faults.specs.declared.Reason.TheVariants.{NoSuchSort, ValueTooLarge, TruthSortSize, EndsInField}
 use Rattle.bits.proofs.Fields.{field_small}
 use Rattle.definitions.specs.Bits.{field}
 use Rattle.definitions.specs.Lists.{each, product}
 use Rattle.definitions.specs.Alg.{sized}
-use Rattle.definitions.specs.Reading.{Step, next, stop, Reader, bad, ended, complete, ending, follow, take, take_for, below, must, repeated}
-use Rattle.definitions.specs.Tables.{TableOp, Table, read_size, read_sizes, read_sort, read_op, read_table, table_reading}
+use Rattle.definitions.specs.Reading.{Step, next, stop, Reader, follow, take, take_for, below, must, repeated}
+use Rattle.definitions.specs.Tables.{TableOp, read_size, read_sizes, read_sort, read_op}
 use Rattle.algebra.specs.Limits.{size_fits, sizes_fit}
 use Rattle.algebra.specs.Kept.{op_sound, sizes_sound}
 use Rattle.algebra.proofs.Rows.{row_inv, row_below, for_below}

@@ -1,9 +1,9 @@
 -- The place of some arguments among the values of an operation.
-use Rattle.std.specs.Prelude.{◌≡◌, ℕ, zero, suc, ◌+◌, ◌*◌, ◌^◌, ◌<◌, ◌≤◌, Bool, true, false, ◌&&◌, List, [], ◌∷◌, length, take, drop, Some, None, Option, ◌≢◌, nat_lt, slice_index, slice_index_or, refl}
-use Rattle.std.proofs.Common.{sym, ◌∙◌, ap, ap₂, arith, add-one, pow-suc, mul_assoc, mul-le-mul_right, mul-le-mul_left, mul-le-mul, suc-mul, drop-cons, get_or-take, get_or-drop}
+use Rattle.std.specs.Prelude.{◌≡◌, ℕ, zero, suc, ◌+◌, ◌*◌, ◌^◌, ◌<◌, ◌≤◌, Bool, true, false, ◌&&◌, List, [], ◌∷◌, length, take, drop, Some, None, Option, ◌≢◌, nat_lt, slice_index, refl}
+use Rattle.std.proofs.Common.{sym, ◌∙◌, ap, arith, add-one, pow-suc, mul_assoc, mul-le-mul_right, mul-le-mul_left, mul-le-mul, suc-mul, drop-cons, get_or-take, get_or-drop}
 use Rattle.std.proofs.Math.Arith.{digits_lt}
 use Rattle.std.proofs.lemmas.List.{length-map}
-use Rattle.std.proofs.lemmas.Bool.{lt-ltb, le-ltb, ltb-true, false≢true}
+use Rattle.std.proofs.lemmas.Bool.{ltb-true, false≢true}
 use Rattle.definitions.specs.Lists.{each, product}
 use Rattle.definitions.specs.Alg.{within, sized}
 use Rattle.definitions.specs.Tables.{place_of}
@@ -32,31 +32,6 @@ within_uneven (z ∷ zs) (x ∷ xs) h = ap (λ b. nat_lt x z && b) (within_uneve
     go : (b : Bool) → (b && false) ≡ false
     go true = refl
     go false = refl
-
-module _ (zs xs : List ℕ) (k : ℕ) (hz : k < length zs) (hx : k < length xs) where
-  open_at : {Y : Type 0} (f : List ℕ → List ℕ → Y) → f (drop k zs) (drop k xs) ≡ f (slice_index zs k ∷ drop (suc k) zs) (slice_index xs k ∷ drop (suc k) xs)
-  open_at f = ap₂ f (drop-cons zs k 0 hz) (drop-cons xs k 0 hx)
-
-  pub within_next : slice_index_or xs k 0 < slice_index zs k → within (drop k zs) (drop k xs) ≡ within (drop (k + 1) zs) (drop (k + 1) xs)
-  within_next h = rw add-one (open_at within ∙ ap (λ b. b && within (drop (suc k) zs) (drop (suc k) xs)) (lt-ltb (slice_index xs k) (slice_index zs k) h))
-
-  pub within_stop : slice_index_or zs k 0 ≤ slice_index xs k → within (drop k zs) (drop k xs) ≡ false
-  within_stop h = open_at within ∙ ap (λ b. b && within (drop (suc k) zs) (drop (suc k) xs)) (le-ltb (slice_index xs k) (slice_index zs k) h)
-
-  pub place_next : (n : ℕ) → place_of n (drop k zs) (drop k xs) ≡ place_of (n * slice_index zs k + slice_index xs k) (drop (k + 1) zs) (drop (k + 1) xs)
-  place_next n = rw add-one (open_at (place_of n))
-
-drop_all : (l : List ℕ) (k : ℕ) → length l ≤ k → drop k l ≡ []
-drop_all [] zero h = refl
-drop_all [] (suc k) h = refl
-drop_all (x ∷ l) zero h = absurd (omega arith)
-drop_all (x ∷ l) (suc k) h = drop_all l k (omega arith)
-
-pub within_end : (zs xs : List ℕ) (k : ℕ) → length zs ≤ k → length xs ≤ k → within (drop k zs) (drop k xs) ≡ true
-within_end zs xs k h i = ap₂ within (drop_all zs k h) (drop_all xs k i)
-
-pub place_end : (n : ℕ) (zs xs : List ℕ) (k : ℕ) → length zs ≤ k → place_of n (drop k zs) (drop k xs) ≡ n
-place_end n zs xs k h = ap (λ l. place_of n l (drop k xs)) (drop_all zs k h)
 
 -- no place is too large for its type
 pub place_small : (n z x k : ℕ) → n < 65536 ^ k → x < z → z ≤ 65536 → n * z + x < 65536 ^ (k + 1)
@@ -98,9 +73,6 @@ value_at values offset m p h = get_or-take m (drop offset values) p 0 h ∙ get_
 -- one factor more of a product
 pub product_next : (zs : List ℕ) (k t : ℕ) → k < length zs → t * product (drop k zs) ≡ t * slice_index zs k * product (drop (k + 1) zs)
 product_next zs k t h = rw add-one (ap (λ l. t * product l) (drop-cons zs k 0 h) ∙ sym (mul_assoc t (slice_index zs k) (product (drop (suc k) zs))))
-
-pub product_end : (zs : List ℕ) (k t : ℕ) → length zs ≤ k → t * product (drop k zs) ≡ t
-product_end zs k t h = ap (λ l. t * product l) (drop_all zs k h) ∙ (let e : t * 1 ≡ t = omega arith in e)
 
 pub product_small : (t z k : ℕ) → t ≤ 65536 ^ k → z ≤ 65536 → t * z ≤ 65536 ^ (k + 1)
 product_small t z k ht hz =

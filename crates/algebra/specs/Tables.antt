@@ -11,7 +11,7 @@ use Rattle.algebra.specs.Limits.{size_fits, sizes_fit}
 use Rattle.algebra.specs.Kept.{args_of, values_of, kept_op, kept, roomy, op_sound, sizes_sound, table_sound}
 use Rattle.algebra.specs.declared.table.operation.Operation.{Operation}
 use Rattle.algebra.specs.Places.{place_below, value_at}
-use Rattle.algebra.specs.Lists.{none_some, some_inj, front_long, at_in, at_map, every_at, every_each, each_cons}
+use Rattle.algebra.specs.Lists.{none_some, some_inj, at_in, at_map, every_at, every_each, each_cons}
 use Rattle.algebra.specs.Lawfuls.{OpFits, algebra_lawful}
 
 pub size_fits_lem : (n : ℕ) → size_fits n ≡ true → (1 ≤ n) × (n ≤ 256)

@@ -25,12 +25,12 @@ fn place_of(sizes: &[u16], sorts: &[u8], args: &[u8]) -> Option<usize>
         return None;
     }
     let mut place = 0;
-    for (k, sort) in sorts.iter().enumerate() {
+    for (sort, arg) in sorts.iter().zip(args) {
         let size = sizes[*sort as usize];
-        if args[k] as u16 >= size {
+        if *arg as u16 >= size {
             return None;
         }
-        place = place * size as usize + args[k] as usize;
+        place = place * size as usize + *arg as usize;
     }
     Some(place)
 }

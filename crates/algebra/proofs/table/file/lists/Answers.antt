@@ -1,8 +1,8 @@
-use Rattle.std.proofs.Common.{◌≡◌, ℕ, ◌+◌, ◌*◌, ◌^◌, ◌<◌, ◌≤◌, ltb, List, length, get_or, drop, sym, ap, ◌∙◌, arith, rules}
+use Rattle.std.proofs.Common.{◌≡◌, ℕ, ◌+◌, ◌*◌, ◌^◌, ◌<◌, ◌≤◌, ltb, List, length, get_or, drop, ap, ◌∙◌, arith, rules}
 use Rattle.std.proofs.lemmas.Bool.{ltb-true}
 use Rattle.definitions.specs.Lists.{product}
 use Rattle.definitions.specs.Alg.{sized}
-use Rattle.algebra.specs.Places.{each_at, sized_at, sized_long, product_next, product_end, product_small, power_le}
+use Rattle.algebra.specs.Places.{each_at, sized_at, sized_long, product_next, product_small, power_le}
 use Rattle.algebra.proofs.table.file.lists.Goals as goal
 
 pub bounds-sizes-sort : goal.bounds-sizes-sort
@@ -33,10 +33,3 @@ loop-sort-preserved c =
       product_small t z k c.loop-sort.invariant.0 (omega arith),
       c.loop-sort.invariant.1 ∙ product_next zs k t (omega arith) ∙ ap (λ (m : ℕ). t * m * product (drop (k + 1) zs)) e,
     )
-
-pub returns : goal.returns
-returns c =
-    let ss : List ℕ = c.args.sorts.now in
-    let zs : List ℕ = sized c.args.sizes.now ss in
-    let l : length zs ≡ length ss = sized_long c.args.sizes.now ss in
-    sym (c.loop-sort.invariant.1 ∙ product_end zs c.loop-sort.sort-index c.loop-sort.total (omega arith))

@@ -1,4 +1,4 @@
-use Rattle.std.proofs.Common.{◌≡◌, ℕ, ◌+◌, ◌-◌, ◌*◌, ◌≤◌, ltb, List, length, get_or, take, drop, ap, ◌∙◌, arith, length-drop}
+use Rattle.std.proofs.Common.{◌≡◌, ℕ, ◌+◌, ◌-◌, ◌≤◌, ltb, List, length, get_or, drop, ap, ◌∙◌, arith, length-drop}
 use Rattle.faults.specs.declared.Reason.TheVariants.{NoSuchSort, ValueTooLarge}
 use Rattle.rows.specs.Listed.{listed}
 use Rattle.definitions.specs.Alg.{sized}

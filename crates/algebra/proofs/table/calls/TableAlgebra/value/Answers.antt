@@ -1,9 +1,9 @@
-use Rattle.std.proofs.Common.{◌≡◌, ℕ, ◌+◌, ◌*◌, ◌^◌, ◌<◌, ◌≤◌, true, false, ltb, List, length, get_or, Some, None, Option, sym, ◌∙◌, ap, ap₂, arith}
+use Rattle.std.proofs.Common.{◌≡◌, ℕ, ◌+◌, ◌^◌, ◌<◌, ◌≤◌, true, false, ltb, List, length, get_or, Some, None, Option, ◌∙◌, ap, ap₂, arith}
 use Rattle.rows.specs.Listed.{listed}
-use Rattle.definitions.specs.Lists.{each, product}
-use Rattle.definitions.specs.Alg.{Op, within, sized}
+use Rattle.definitions.specs.Lists.{each}
+use Rattle.definitions.specs.Alg.{within, sized}
 use Rattle.definitions.specs.Tables.{place_of}
-use Rattle.algebra.specs.Kept.{args_of, values_of}
+use Rattle.algebra.specs.Kept.{args_of}
 use Rattle.algebra.specs.Lists.{front_long}
 use Rattle.algebra.specs.Places.{placed, unplaced}
 use Rattle.algebra.specs.Tables.{args_known, place_fits, value_none, value_some}
