@@ -20,9 +20,6 @@ seam_front f before after e = ap (take (length f)) e ∙ take-append_seam f (dro
 pub seam_rest : (f before after : List ℕ) → after ≡ f ++ drop (length f) before → drop (length f) after ≡ drop (length f) before
 seam_rest f before after e = ap (drop (length f)) e ∙ drop-append_seam f (drop (length f) before)
 
-pub delivered_front : (g before after : List ℕ) (n : ℕ) → Delivered g before after n → take n after ≡ g
-delivered_front g before after n d = ap (λ m. take m after) d.long ∙ seam_front g before after d.front
-
 pub delivered_rest : (g before after : List ℕ) (n : ℕ) → Delivered g before after n → drop n after ≡ drop n before
 delivered_rest g before after n d =
     ap (λ m. drop m after) d.long ∙ (seam_rest g before after d.front ∙ ap (λ m. drop m before) (sym d.long))

@@ -84,7 +84,8 @@ pub struct Fault {
     pub place: usize,
 }
 
-// The faults of table, read and solve have the same fields and are three types: a layer is told by the type.
+// A layer is told by the type of its fault. So those of table, read and solve are three types with the same fields, and those of
+// pass and expand two with the same cases.
 
 /// Making or filling an algebra is declined.
 #[derive(Clone, Copy, PartialEq, Eq, Debug)]

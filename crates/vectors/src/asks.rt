@@ -77,10 +77,8 @@ pub fn ask<G: Algebra>(heap: Global, alg: &G, line: &Line) -> Result<String, All
         .iter()
         .map(|number| (*number & 0xff) as u8)
         .collect::<Vec<u8>>(heap)?;
-    let (op, arguments) = match bytes.split_first() {
-        Some((op, arguments)) => (*op, arguments),
-        None => (0, bytes.as_slice()),
-    };
+    let op = bytes.first().copied().unwrap_or(0);
+    let arguments = bytes.get(1..).unwrap_or(&bytes);
     let arity = Answer(alg.arity(op));
     let first = Answer(alg.arg_sort(op, 0));
     let third = Answer(alg.arg_sort(op, 2));

@@ -11,6 +11,7 @@ pub struct Line<'a> {
 }
 
 impl<'a> Line<'a> {
+    /// Takes the text of a line apart.
     pub fn of(text: &'a str) -> Line<'a> {
         let (command, label) = text.split_once(" | ").unwrap_or((text, ""));
         let (verb, rest) = command.split_once(' ').unwrap_or((command, ""));
