@@ -2,19 +2,15 @@
 use Rattle.std.proofs.Common.{◌≡◌, ℕ, zero, suc, ◌+◌, ◌-◌, ◌<◌, ◌≤◌, List, [], ◌∷◌, ◌++◌, map, length, get_or, take, drop, set, replicate, sym, refl, ap, ◌∙◌, add-one, arith, take-append-drop, length-take-le, drop-cons}
 use Rattle.faults.specs.declared.Reason.{Reason}
 use Rattle.definitions.specs.Reading.{Step, next, stop, Reader, follow, repeated, one_by_one}
+use Rattle.bits.specs.InRow.{before}
 use Rattle.system.specs.Bodies.{padded}
 use Rattle.system.proofs.Lists.{drop_end}
-
--- what was read before, and the rest
-abbrev pub before : {X : Type 0} → List X → Step (List X) → Step (List X)
-before xs (next ys q) = next (xs ++ ys) q
-before xs (stop r q) = stop r q
 
 pub snoc : {X : Type 0} (xs : List X) (x : X) (ys : List X) → xs ++ (x ∷ ys) ≡ (xs ++ (x ∷ [])) ++ ys
 snoc [] x ys = refl
 snoc (y ∷ xs) x ys = ap (λ zs. y ∷ zs) (snoc xs x ys)
 
-snoc_at : {X : Type 0} (xs : List X) (x : X) (m : Step (List X)) → before xs (follow m (λ ys q. next (x ∷ ys) q)) ≡ before (xs ++ (x ∷ [])) m
+pub snoc_at : {X : Type 0} (xs : List X) (x : X) (m : Step (List X)) → before xs (follow m (λ ys q. next (x ∷ ys) q)) ≡ before (xs ++ (x ∷ [])) m
 snoc_at xs x (next ys q) = ap (λ zs. next zs q) (snoc xs x ys)
 snoc_at xs x (stop r q) = refl
 
@@ -26,53 +22,10 @@ pub nil : {X : Type 0} (xs : List X) → xs ++ [] ≡ xs
 nil [] = refl
 nil (x ∷ xs) = ap (λ ys. x ∷ ys) (nil xs)
 
-module _ {X : Type 0} (f : List ℕ) (r : Reader X) where
-  pub fill_next : (xs zs : List X) (n i p q : ℕ) (x : X) → i < n → next x q ≡ r f p → xs ++ (x ∷ []) ≡ zs → before xs (repeated r (n - i) f p) ≡ before zs (repeated r (n - (i + 1)) f q)
-  fill_next xs zs n i p q x h e k = go (n - i) (n - (i + 1)) (omega arith)
-    where
-      go : (u v : ℕ) → u ≡ v + 1 → before xs (repeated r u f p) ≡ before zs (repeated r v f q)
-      go zero v l = absurd (omega arith)
-      go (suc u) v l =
-          let j : u ≡ v = omega arith in
-          ap (λ m. before xs (follow m (λ y t. follow (repeated r u f t) (λ ys w. next (y ∷ ys) w)))) (sym e) ∙ snoc_at xs x (repeated r u f q) ∙ ap (λ w. before w (repeated r u f q)) k ∙ ap (λ w. before zs (repeated r w f q)) j
-
-  pub fill_stop : (xs : List X) (n i p : ℕ) (s : Reason) (t : ℕ) → i < n → stop s t ≡ r f p → before xs (repeated r (n - i) f p) ≡ stop s t
-  fill_stop xs n i p s t h e = go (n - i) (omega arith)
-    where
-      go : (u : ℕ) → 0 < u → before xs (repeated r u f p) ≡ stop s t
-      go zero l = absurd (omega arith)
-      go (suc u) l = ap (λ m. before xs (follow m (λ y t. follow (repeated r u f t) (λ ys w. next (y ∷ ys) w)))) (sym e)
-
-  pub fill_end : (xs : List X) (n i p : ℕ) → n ≡ i → before xs (repeated r (n - i) f p) ≡ next xs p
-  fill_end xs n i p h = let e : n - i ≡ 0 = omega arith in ap (λ w. before xs (repeated r w f p)) e ∙ ap (λ ys. next ys p) (nil xs)
-
 pub take_set : {X : Type 0} (xs : List X) (i : ℕ) (x : X) → i < length xs → take i xs ++ (x ∷ []) ≡ take (suc i) (set xs i x)
 take_set [] i x h = absurd (omega arith)
 take_set (y ∷ xs) zero x h = refl
 take_set (y ∷ xs) (suc i) x h = ap (λ ys. y ∷ ys) (take_set xs i x (omega arith))
-
-pub map_set : {X Y : Type 0} (g : X → Y) (xs : List X) (i : ℕ) (x : X) → i < length xs → map g (take i xs) ++ (g x ∷ []) ≡ map g (take (suc i) (set xs i x))
-map_set g [] i x h = absurd (omega arith)
-map_set g (y ∷ xs) zero x h = refl
-map_set g (y ∷ xs) (suc i) x h = ap (λ ys. g y ∷ ys) (map_set g xs i x (omega arith))
-
-module _ {X Y : Type 0} (f : List ℕ) (r : Y → Reader X) (ys : List Y) where
-  pub each_fill_next : (xs zs : List X) (y : Y) (i p q : ℕ) (x : X) → i < length ys → y ≡ get_or ys i y → next x q ≡ r y f p → xs ++ (x ∷ []) ≡ zs →
-      before xs (one_by_one r (drop i ys) f p) ≡ before zs (one_by_one r (drop (i + 1) ys) f q)
-  each_fill_next xs zs y i p q x h k e j =
-      ap (λ w. before xs (one_by_one r w f p)) (drop-cons ys i y h ∙ ap (λ z. z ∷ drop (suc i) ys) (sym k)) ∙
-      ap (λ m. before xs (follow m (λ y t. follow (one_by_one r (drop (suc i) ys) f t) (λ ys w. next (y ∷ ys) w)))) (sym e) ∙
-      snoc_at xs x (one_by_one r (drop (suc i) ys) f q) ∙ ap (λ w. before w (one_by_one r (drop (suc i) ys) f q)) j ∙
-      ap (λ n. before zs (one_by_one r (drop n ys) f q)) (sym (add-one i))
-
-  pub each_fill_stop : (xs : List X) (y : Y) (i p : ℕ) (s : Reason) (t : ℕ) → i < length ys → y ≡ get_or ys i y → stop s t ≡ r y f p →
-      before xs (one_by_one r (drop i ys) f p) ≡ stop s t
-  each_fill_stop xs y i p s t h k e =
-      ap (λ w. before xs (one_by_one r w f p)) (drop-cons ys i y h ∙ ap (λ z. z ∷ drop (suc i) ys) (sym k)) ∙
-      ap (λ m. before xs (follow m (λ y t. follow (one_by_one r (drop (suc i) ys) f t) (λ ys w. next (y ∷ ys) w)))) (sym e)
-
-  pub each_fill_end : (xs : List X) (i p : ℕ) → length ys ≤ i → before xs (one_by_one r (drop i ys) f p) ≡ next xs p
-  each_fill_end xs i p h = ap (λ w. before xs (one_by_one r w f p)) (drop_end ys i h) ∙ ap (λ w. next w p) (nil xs)
 
 -- zeros behind
 pub zeros_next : (xs : List ℕ) (i n x : ℕ) → drop i xs ≡ replicate (n - i) 0 → i < n → drop (i + 1) (set xs i x) ≡ replicate (n - (i + 1)) 0

@@ -138,7 +138,7 @@ impl<'a, G: Algebra> Checker<'a, G> {
             }
             4..=6 => {
                 suit(need, 0, start)?;
-                let count = if kind == 4 { 1 } else { 2 };
+                let count: u8 = if kind == 4 { 1 } else { 2 };
                 for _ in 0..count {
                     self.check_term(cursor, depth - 1, Some(0))?;
                 }

@@ -1,0 +1,194 @@
+use Rattle.std.proofs.Common.{ℕ, ◌-◌, Some, sym, refl, ap, ◌∙◌, arith}
+use Rattle.definitions.specs.Reading.{next, stop, follow}
+use Rattle.definitions.specs.ReadSystem.{read_value, read_operation, read_term}
+use Rattle.system.specs.Steps.{sorts, sort_only, placed, read_name, scoped}
+use Rattle.system.proofs.Rows.{stopped, handed, placed_sorts, skipped_next, skipped_stop, skipped_end, at_up_to, length_from}
+use Rattle.system.proofs.Behind.{opened, named_parameter, named_variable, unsuited, truths, no_left, right, operation_done}
+use Rattle.system.proofs.term.Checker.+check_term.Goals as goal
+
+pub returns-in-0 : goal.returns-in-0
+returns-in-0 g t c =
+    let a = g.G.Algebra.meaning c.args.self.now.alg.now in
+    let s = scoped c.args.self.now.scope in
+    let f = c.args.cursor.now.bytes.now in
+    let d = c.args.depth in
+    let p = c.args.cursor.now.at in
+    let n = c.args.need in
+    let m = c.field.new.self in
+    let part = read_term a s (d - 1) in
+    handed (λ s. s) (read_name s.parameters 4 p n) (sort_only (read_term a s d n)) c.args.cursor.now m c.check_name.new.cursor c.check_name.result c.in_ok-kind.ensures.reads.1 c.check_name.ensures
+    (named_parameter a s part p n f m.at ∙ opened a s d n f p c.in_ok-kind.kind m.at 0 c.if-depth-eq0.false c.in_ok-kind.ensures.reads.0 c.in-0.is)
+
+pub returns-in-1 : goal.returns-in-1
+returns-in-1 g t c =
+    let a = g.G.Algebra.meaning c.args.self.now.alg.now in
+    let s = scoped c.args.self.now.scope in
+    let f = c.args.cursor.now.bytes.now in
+    let d = c.args.depth in
+    let p = c.args.cursor.now.at in
+    let n = c.args.need in
+    let m = c.field.new.self in
+    let part = read_term a s (d - 1) in
+    handed (λ s. s) (read_name s.variables 2 p n) (sort_only (read_term a s d n)) c.args.cursor.now m c.check_name-in-1.new.cursor c.check_name-in-1.result c.in_ok-kind.ensures.reads.1 c.check_name-in-1.ensures
+    (named_variable a s part p n f m.at ∙ opened a s d n f p c.in_ok-kind.kind m.at 1 c.if-depth-eq0.false c.in_ok-kind.ensures.reads.0 c.in-1.is)
+
+pub returns-in-2 : goal.returns-in-2
+returns-in-2 g t c =
+    let a = g.G.Algebra.meaning c.args.self.now.alg.now in
+    let s = scoped c.args.self.now.scope in
+    let f = c.args.cursor.now.bytes.now in
+    let d = c.args.depth in
+    let p = c.args.cursor.now.at in
+    let n = c.args.need in
+    let m = c.field.new.self in
+    let part = read_term a s (d - 1) in
+    handed (λ s. s) (sort_only (read_value a s part p n)) (sort_only (read_term a s d n)) c.args.cursor.now m c.check_value.new.cursor c.check_value.result c.in_ok-kind.ensures.reads.1 (c.check_value.ensures s part)
+    (opened a s d n f p c.in_ok-kind.kind m.at 2 c.if-depth-eq0.false c.in_ok-kind.ensures.reads.0 c.in-2.is)
+
+pub returns-in_err-o-in-3 : goal.returns-in_err-o-in-3
+returns-in_err-o-in-3 g t c =
+    let a = g.G.Algebra.meaning c.args.self.now.alg.now in
+    let s = scoped c.args.self.now.scope in
+    let f = c.args.cursor.now.bytes.now in
+    let d = c.args.depth in
+    let p = c.args.cursor.now.at in
+    let n = c.args.need in
+    let m = c.field.new.self in
+    let part = read_term a s (d - 1) in
+    let e = c.in_err-o-in-3.field-0.0 in
+    let o = c.in_err-o-in-3.ensures in
+    (stopped (λ s. s) c.check_operation.new.cursor.at c.from_residual-in_err-o-in-3.result e _ c.from_residual-in_err-o-in-3.ensures.1 (ap sorts (o.reads s part) ∙ ap (λ g. sorts (read_operation a s part p n g m.at)) c.in_ok-kind.ensures.reads.1 ∙ opened a s d n f p c.in_ok-kind.kind m.at 3 c.if-depth-eq0.false c.in_ok-kind.ensures.reads.0 c.in-3.is), o.same ∙ c.in_ok-kind.ensures.reads.1)
+
+pub returns-in_err-check_term-in-3 : goal.returns-in_err-check_term-in-3
+returns-in_err-check_term-in-3 g t c =
+    let a = g.G.Algebra.meaning c.args.self.now.alg.now in
+    let s = scoped c.args.self.now.scope in
+    let f = c.args.cursor.now.bytes.now in
+    let d = c.args.depth in
+    let p = c.args.cursor.now.at in
+    let n = c.args.need in
+    let m = c.field.new.self in
+    let part = read_term a s (d - 1) in
+    ?
+
+pub loop-k-preserved : goal.loop-k-preserved
+loop-k-preserved g t c =
+    let a = g.G.Algebra.meaning c.args.self.now.alg.now in
+    let s = scoped c.args.self.now.scope in
+    let f = c.args.cursor.now.bytes.now in
+    let d = c.args.depth in
+    let p = c.args.cursor.now.at in
+    let n = c.args.need in
+    let m = c.field.new.self in
+    let part = read_term a s (d - 1) in
+    ?
+
+pub returns-after-loop-k : goal.returns-after-loop-k
+returns-after-loop-k g t c =
+    let a = g.G.Algebra.meaning c.args.self.now.alg.now in
+    let s = scoped c.args.self.now.scope in
+    let f = c.args.cursor.now.bytes.now in
+    let d = c.args.depth in
+    let p = c.args.cursor.now.at in
+    let n = c.args.need in
+    let m = c.field.new.self in
+    let part = read_term a s (d - 1) in
+    ?
+
+pub returns-in_err-suit-in-4-to-6 : goal.returns-in_err-suit-in-4-to-6
+returns-in_err-suit-in-4-to-6 g t c =
+    let a = g.G.Algebra.meaning c.args.self.now.alg.now in
+    let s = scoped c.args.self.now.scope in
+    let f = c.args.cursor.now.bytes.now in
+    let d = c.args.depth in
+    let p = c.args.cursor.now.at in
+    let n = c.args.need in
+    let m = c.field.new.self in
+    let part = read_term a s (d - 1) in
+    let e = c.in_err-suit-in-4-to-6.field-0.0 in
+    (stopped (λ s. s) m.at c.from_residual-in_err-suit-in-4-to-6.result e _ c.from_residual-in_err-suit-in-4-to-6.ensures.1 (unsuited a s part p n f m.at e.reason e.place c.in_ok-kind.kind (omega arith) (c.in_err-suit-in-4-to-6.ensures f m.at) ∙ opened a s d n f p c.in_ok-kind.kind m.at c.in_ok-kind.kind c.if-depth-eq0.false c.in_ok-kind.ensures.reads.0 refl), c.in_ok-kind.ensures.reads.1)
+
+pub returns-in_err-check_term-in-4-to-6 : goal.returns-in_err-check_term-in-4-to-6
+returns-in_err-check_term-in-4-to-6 g t c =
+    let a = g.G.Algebra.meaning c.args.self.now.alg.now in
+    let s = scoped c.args.self.now.scope in
+    let f = c.args.cursor.now.bytes.now in
+    let d = c.args.depth in
+    let p = c.args.cursor.now.at in
+    let n = c.args.need in
+    let m = c.field.new.self in
+    let part = read_term a s (d - 1) in
+    ?
+
+pub loop-preserved : goal.loop-preserved
+loop-preserved g t c =
+    let a = g.G.Algebra.meaning c.args.self.now.alg.now in
+    let s = scoped c.args.self.now.scope in
+    let f = c.args.cursor.now.bytes.now in
+    let d = c.args.depth in
+    let p = c.args.cursor.now.at in
+    let n = c.args.need in
+    let m = c.field.new.self in
+    let part = read_term a s (d - 1) in
+    ?
+
+pub returns-after-loop : goal.returns-after-loop
+returns-after-loop g t c =
+    let a = g.G.Algebra.meaning c.args.self.now.alg.now in
+    let s = scoped c.args.self.now.scope in
+    let f = c.args.cursor.now.bytes.now in
+    let d = c.args.depth in
+    let p = c.args.cursor.now.at in
+    let n = c.args.need in
+    let m = c.field.new.self in
+    let part = read_term a s (d - 1) in
+    ?
+
+pub returns-in_err-suit-in_default : goal.returns-in_err-suit-in_default
+returns-in_err-suit-in_default g t c =
+    let a = g.G.Algebra.meaning c.args.self.now.alg.now in
+    let s = scoped c.args.self.now.scope in
+    let f = c.args.cursor.now.bytes.now in
+    let d = c.args.depth in
+    let p = c.args.cursor.now.at in
+    let n = c.args.need in
+    let m = c.field.new.self in
+    let part = read_term a s (d - 1) in
+    let e = c.in_err-suit-in_default.field-0.0 in
+    (stopped (λ s. s) m.at c.from_residual-in_err-suit-in_default.result e _ c.from_residual-in_err-suit-in_default.ensures.1 (unsuited a s part p n f m.at e.reason e.place c.in_ok-kind.kind (omega (arith, c.in_ok-kind.ensures.small)) (c.in_err-suit-in_default.ensures f m.at) ∙ opened a s d n f p c.in_ok-kind.kind m.at c.in_ok-kind.kind c.if-depth-eq0.false c.in_ok-kind.ensures.reads.0 refl), c.in_ok-kind.ensures.reads.1)
+
+pub returns-in_err-sort-in_default : goal.returns-in_err-sort-in_default
+returns-in_err-sort-in_default g t c =
+    let a = g.G.Algebra.meaning c.args.self.now.alg.now in
+    let s = scoped c.args.self.now.scope in
+    let f = c.args.cursor.now.bytes.now in
+    let d = c.args.depth in
+    let p = c.args.cursor.now.at in
+    let n = c.args.need in
+    let m = c.field.new.self in
+    let part = read_term a s (d - 1) in
+    ?
+
+pub returns-in_err-check_term-in_default : goal.returns-in_err-check_term-in_default
+returns-in_err-check_term-in_default g t c =
+    let a = g.G.Algebra.meaning c.args.self.now.alg.now in
+    let s = scoped c.args.self.now.scope in
+    let f = c.args.cursor.now.bytes.now in
+    let d = c.args.depth in
+    let p = c.args.cursor.now.at in
+    let n = c.args.need in
+    let m = c.field.new.self in
+    let part = read_term a s (d - 1) in
+    ?
+
+pub returns-in_ok-check_term-in_default : goal.returns-in_ok-check_term-in_default
+returns-in_ok-check_term-in_default g t c =
+    let a = g.G.Algebra.meaning c.args.self.now.alg.now in
+    let s = scoped c.args.self.now.scope in
+    let f = c.args.cursor.now.bytes.now in
+    let d = c.args.depth in
+    let p = c.args.cursor.now.at in
+    let n = c.args.need in
+    let m = c.field.new.self in
+    let part = read_term a s (d - 1) in
+    ?
