@@ -76,11 +76,10 @@ impl<'a, G: Algebra> Checker<'a, G> {
 fn sorts_of(variables: &Row<Quantified, 3>) -> Row<u8, 3>
     ensures { listed result ≡ map (λ q. q.sort) (listed variables.now) }
 {
-    let mut sorts = Row::new(0);
-    for variable in variables.as_slice() {
-        sorts.push(variable.sort).unwrap();
+    Row {
+        items: variables.items.map(|variable| variable.sort),
+        len: variables.len,
     }
-    sorts
 }
 
 fn check_equation<'a, G: Algebra>(
