@@ -7,7 +7,6 @@ use Rattle.definitions.specs.Alg.{Alg}
 use Rattle.definitions.specs.Reading.{Step, next, stop, Reader, follow, take, given, repeated, one_by_one}
 use Rattle.definitions.specs.Systems.{Term, Equation}
 use Rattle.definitions.specs.ReadSystem.{Scope, Header, scope, read_target, read_of, read_occurrence, read_clause, read_body}
-use Rattle.system.specs.Bodies.{read_in_scope}
 use Rattle.system.specs.Steps.{placed}
 use Rattle.system.proofs.Rows.{counted}
 
@@ -55,21 +54,6 @@ module _ (a : Alg) (hs : List Header) (c : Scope) (f : List ℕ) where
   clause_done p o n q e k w h =
       after (read_of a c 0 f p) _ o w e (λ g. exactly (take 3 f o) _ n q w k (h ∙ ap placed (counted (read_occurrence a hs c) 0 (n + 1) f q) ∙ ap (λ m. placed (repeated (read_occurrence a hs c) m f q)) (add-one n) ∙ wrapped (λ os. record { guard = g; occurrences = os }) (repeated (read_occurrence a hs c) (suc n) f q)))
 
-  pub body_done : (p o n q : ℕ) → next tt o ≡ placed (read_of a c 0 f p) → next n q ≡ take 4 f o → (w : Step (Unit {0})) → w ≡ placed (one_by_one (λ (_ : ℕ). read_clause a hs c) (up_to n) f q) → w ≡ read_in_scope a hs c f p
-  body_done p o n q e k w h =
-      h ∙ ap placed (counted (read_clause a hs c) 0 n f q) ∙
-      ap (λ m. follow m (λ n t. placed (repeated (read_clause a hs c) n f t))) k ∙
-      ap (λ m. follow m (λ _ t. follow (take 4 f t) (λ n t. placed (repeated (read_clause a hs c) n f t)))) e
-
-pub body_same : (a : Alg) (hs : List Header) (h : Header) (f : List ℕ) (p : ℕ) → read_in_scope a hs (scope h) f p ≡ placed (read_body a hs h f p)
-body_same a hs h f p = go (read_of a (scope h) 0 f p)
-  where
-    clauses : (t : Term) (m : Step ℕ) → follow m (λ n u. placed (repeated (read_clause a hs (scope h)) n f u)) ≡
-        placed {X = Equation} (follow m (λ n u. follow (repeated (read_clause a hs (scope h)) n f u) (λ cs v. next (record { sign = h.sign; sorts = h.sorts; quantified = h.quantified; h = t; clauses = cs }) v)))
-    clauses t (next n u) = wrapped {B = Equation} (λ cs. record { sign = h.sign; sorts = h.sorts; quantified = h.quantified; h = t; clauses = cs }) (repeated (read_clause a hs (scope h)) n f u)
-    clauses t (stop r u) = refl
-
-    go : (m : Step Term) → follow (placed m) (λ _ q. follow (take 4 f q) (λ n t. placed (repeated (read_clause a hs (scope h)) n f t))) ≡
-        placed {X = Equation} (follow m (λ t q. follow (take 4 f q) (λ n u. follow (repeated (read_clause a hs (scope h)) n f u) (λ cs v. next (record { sign = h.sign; sorts = h.sorts; quantified = h.quantified; h = t; clauses = cs }) v))))
-    go (next t q) = clauses t (take 4 f q)
-    go (stop r q) = refl
+pub body_done : (a : Alg) (hs : List Header) (h : Header) (f : List ℕ) (p o n q : ℕ) → next tt o ≡ placed (read_of a (scope h) 0 f p) → next n q ≡ take 4 f o → (w : Step (Unit {0})) → w ≡ placed (one_by_one (λ (_ : ℕ). read_clause a hs (scope h)) (up_to n) f q) → w ≡ placed (read_body a hs h f p)
+body_done a hs h f p o n q e k w l =
+    after (read_of a (scope h) 0 f p) _ o w e (λ t. exactly (take 4 f o) _ n q w k (l ∙ ap placed (counted (read_clause a hs (scope h)) 0 n f q) ∙ wrapped {B = Equation} (λ cs. record { sign = h.sign; sorts = h.sorts; quantified = h.quantified; h = t; clauses = cs }) (repeated (read_clause a hs (scope h)) n f q)))

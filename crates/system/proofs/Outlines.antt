@@ -15,6 +15,7 @@ use Rattle.system.specs.Bodies.{places_of, padded}
 use Rattle.system.specs.Files.{kept_header}
 use Rattle.system.specs.Whole.{read_rest, kept_headers, Outlined}
 use Rattle.system.specs.declared.outline.Outline.{Outline}
+use Rattle.system.specs.declared.header.Header.{Header as KeptHeader}
 use Rattle.system.specs.declared.outline.Equation.{Equation as Told}
 use Rattle.rows.specs.Listed.{listed}
 use Rattle.system.proofs.Walks.{ReadAt, places_read}
@@ -106,31 +107,43 @@ body_at [] i t e = let z : ◌≡◌ {A = ℕ} 0 1 = cc in absurd (omega arith)
 body_at (u ∷ ts) zero t e = let i : t ≡ u = cc in ap (λ (t : Told). t.body) i
 body_at (u ∷ ts) (suc i) t e = body_at ts i t e
 
-pub outlined : (a : Alg) (f : List ℕ) (o : Outline) (p q u : ℕ) (h : Header) (vs : List ℕ) → read_system a f 0 ≡ read_rest a (kept_headers o) f p → next tt q ≡ placed (one_by_one (read_body a (kept_headers o)) (kept_headers o) f p) →
-    map (λ (t : Told). t.body) (listed o.equations) ≡ places_of (read_body a (kept_headers o)) (kept_headers o) f p → next (o.start.equation, h) u ≡ read_target (kept_headers o) f q → next vs o.end ≡ one_by_one (read_value_of a) h.sorts f u → o.start.values ≡ padded vs → (s : System) × Outlined a f s o
-outlined a f o p q u h vs e b w t l z =
-    let hs = kept_headers o in
+heads : (ts : List Told) → map (λ (t : Told). kept_header t.header) ts ≡ map kept_header (map (λ (t : Told). t.header) ts)
+heads [] = refl
+heads (t ∷ ts) = ap (λ hs. kept_header t.header ∷ hs) (heads ts)
+
+pub outlined : (a : Alg) (f : List ℕ) (o : Outline) (ks : List KeptHeader) (p q u : ℕ) (h : Header) (vs : List ℕ) → map (λ (t : Told). t.header) (listed o.equations) ≡ ks → read_system a f 0 ≡ read_rest a (map kept_header ks) f p → next tt q ≡ placed (one_by_one (read_body a (map kept_header ks)) (map kept_header ks) f p) →
+    map (λ (t : Told). t.body) (listed o.equations) ≡ places_of (read_body a (map kept_header ks)) (map kept_header ks) f p → next (o.start.equation, h) u ≡ read_target (map kept_header ks) f q → next vs o.end ≡ one_by_one (read_value_of a) h.sorts f u → o.start.values ≡ padded vs → (s : System) × Outlined a f s o
+outlined a f o ks p q u h vs n e b w t l z =
+    let hs = map kept_header ks in
     let d = was_next (one_by_one (read_body a hs) hs f p) q b in
-    let k : map header_of d.0 ≡ hs = each_tells header_of (read_body a hs) f (λ x p y q j. read_header_lem a hs x f p y q j) hs p d.0 q d.1 in (
+    let k : map header_of d.0 ≡ hs = each_tells header_of (read_body a hs) f (λ x p y q j. read_header_lem a hs x f p y q j) hs p d.0 q d.1 in
+    let m : kept_headers o ≡ hs = heads (listed o.equations) ∙ ap (map kept_header) n in (
       record { equations = d.0; start = o.start.equation; values = vs },
       record {
         whole = e ∙ target_read a hs f p d.0 q o.start.equation h u d.1 t ∙ ap (λ m. follow m (λ vs q. next (record { equations = d.0; start = o.start.equation; values = vs }) q)) (sym l);
-        count = sym (length-map (listed o.equations) (λ (t : Told). kept_header t.header)) ∙ sym (ap length k) ∙ length-map d.0 header_of;
-        headers = sym k;
-        bodies = λ i x t j m. at_place (places_of (read_body a hs) hs f p) w i x t m (places_read f (read_body a hs) hs p q d.0 d.1 i x j);
+        count = sym (length-map (listed o.equations) (λ (t : Told). kept_header t.header)) ∙ ap length (m ∙ sym k) ∙ length-map d.0 header_of;
+        headers = m ∙ sym k;
+        bodies = λ i x t j y. at_place hs m (places_of (read_body a hs) hs f p) w i x t y (places_read f (read_body a hs) hs p q d.0 d.1 i x j);
         start = refl;
         values = z;
       },
     )
   where
-    at_place : (ps : List ℕ) → map (λ (t : Told). t.body) (listed o.equations) ≡ ps → (i : ℕ) (x : Equation) (t : Told) → at (listed o.equations) i ≡ Some t → ReadAt f (read_body a (kept_headers o)) (kept_headers o) ps i x →
+    at_place : (hs : List Header) → kept_headers o ≡ hs → (ps : List ℕ) → map (λ (t : Told). t.body) (listed o.equations) ≡ ps → (i : ℕ) (x : Equation) (t : Told) → at (listed o.equations) i ≡ Some t → ReadAt f (read_body a hs) hs ps i x →
         (q : ℕ) × (read_body a (kept_headers o) (header_of x) f t.body ≡ next x q)
-    at_place ps w i x t m d =
-        let y = d.0 in
+    at_place hs m ps w i x t y d =
+        let v = d.0 in
         let r = d.1.1.1 in
-        let g : header_of x ≡ y = read_header_lem a (kept_headers o) y f (get_or ps i 0) x d.1.0 r in
-        let v : t.body ≡ get_or ps i 0 = body_at (listed o.equations) i t m ∙ ap (λ z. get_or z i 0) w in
-        (d.1.0, ap (λ z. read_body a (kept_headers o) z f t.body) g ∙ ap (λ z. read_body a (kept_headers o) y f z) v ∙ r)
+        let g : header_of x ≡ v = read_header_lem a hs v f (get_or ps i 0) x d.1.0 r in
+        let b : t.body ≡ get_or ps i 0 = body_at (listed o.equations) i t y ∙ ap (λ z. get_or z i 0) w in
+        (d.1.0, ap (λ z. read_body a z (header_of x) f t.body) m ∙ ap (λ z. read_body a hs z f t.body) g ∙ ap (λ z. read_body a hs v f z) b ∙ r)
+
+-- a system whose headers are not read
+pub no_headers : (a : Alg) (f : List ℕ) (n q : ℕ) → next n q ≡ take 5 f 0 → (n ≡ 0 → ⊥) → (r : Reason) (t : ℕ) → stop r t ≡ repeated (read_header a) n f q → read_system a f 0 ≡ stop r t
+no_headers a f n q e h r t k =
+    ap (λ m. follow m (λ n q. follow (must (ltb 0 n) NoEquations 0 f q) (λ _ q. follow (repeated (read_header a) n f q) (λ hs q. read_rest a hs f q)))) (sym e) ∙
+    ap (λ b. follow (must b NoEquations 0 f q) (λ _ q. follow (repeated (read_header a) n f q) (λ hs q. read_rest a hs f q))) (sym (positive n h)) ∙
+    ap (λ m. follow m (λ hs q. read_rest a hs f q)) (sym k)
 
 -- a file that is read is not too long
 pub got_short : (a : Alg) (f : List ℕ) (s : System) → reading a f ≡ got s → length f ≤ 8192

@@ -1,42 +1,43 @@
 use Rattle.std.proofs.Common.{◌≡◌, ℕ, ◌-◌, Some, None, Ok, refl, ap, ◌∙◌, subst, arith}
 use Rattle.definitions.specs.Lists.{up_to}
 use Rattle.definitions.specs.Reading.{next, stop}
-use Rattle.definitions.specs.ReadSystem.{read_value, read_operation, read_term}
-use Rattle.system.specs.Steps.{sorts, sort_only, placed, read_name, scoped, operated}
+use Rattle.definitions.specs.ReadSystem.{read_value, read_operation, read_term, scope}
+use Rattle.system.specs.Steps.{sorts, sort_only, placed, read_name, operated}
 use Rattle.system.proofs.Rows.{stopped, handed, placed_sorts, skipped_next, skipped_stop, skipped_end, at_up_to, length_from}
 use Rattle.system.proofs.Behind.{opened, named_parameter, named_variable, unsuited, truths, no_left, right, operation_done}
+use Rattle.system.specs.Files.{kept_header}
 use Rattle.system.proofs.term.Checker.+check_term.Goals as goal
 
 pub returns-in-0 : goal.returns-in-0
 returns-in-0 g t c =
     let a = g.G.Algebra.meaning c.args.self.now.alg.now in
-    let s = scoped c.args.self.now.scope in
+    let s = scope (kept_header c.args.self.now.header.now) in
     let f = c.args.cursor.now.bytes.now in
     let d = c.args.depth in
     let p = c.args.cursor.now.at in
     let n = c.args.need in
     let m = c.field.new.self in
     let part = read_term a s (d - 1) in
-    handed (λ s. s) (read_name s.parameters 4 p n) (sort_only (read_term a s d n)) c.args.cursor.now m c.check_name.new.cursor c.check_name.result c.in_ok-kind.ensures.reads.1 c.check_name.ensures
+    handed (λ s. s) (read_name s.parameters 4 p n) (sort_only (read_term a s d n)) c.args.cursor.now m c.check_parameter.new.cursor c.check_parameter.result c.in_ok-kind.ensures.reads.1 c.check_parameter.ensures
     (named_parameter a s part p n f m.at ∙ opened a s d n f p c.in_ok-kind.kind m.at 0 c.if-depth-eq0.false c.in_ok-kind.ensures.reads.0 c.in-0.is)
 
 pub returns-in-1 : goal.returns-in-1
 returns-in-1 g t c =
     let a = g.G.Algebra.meaning c.args.self.now.alg.now in
-    let s = scoped c.args.self.now.scope in
+    let s = scope (kept_header c.args.self.now.header.now) in
     let f = c.args.cursor.now.bytes.now in
     let d = c.args.depth in
     let p = c.args.cursor.now.at in
     let n = c.args.need in
     let m = c.field.new.self in
     let part = read_term a s (d - 1) in
-    handed (λ s. s) (read_name s.variables 2 p n) (sort_only (read_term a s d n)) c.args.cursor.now m c.check_name-in-1.new.cursor c.check_name-in-1.result c.in_ok-kind.ensures.reads.1 c.check_name-in-1.ensures
+    handed (λ s. s) (read_name s.variables 2 p n) (sort_only (read_term a s d n)) c.args.cursor.now m c.check_variable.new.cursor c.check_variable.result c.in_ok-kind.ensures.reads.1 c.check_variable.ensures
     (named_variable a s part p n f m.at ∙ opened a s d n f p c.in_ok-kind.kind m.at 1 c.if-depth-eq0.false c.in_ok-kind.ensures.reads.0 c.in-1.is)
 
 pub returns-in-2 : goal.returns-in-2
 returns-in-2 g t c =
     let a = g.G.Algebra.meaning c.args.self.now.alg.now in
-    let s = scoped c.args.self.now.scope in
+    let s = scope (kept_header c.args.self.now.header.now) in
     let f = c.args.cursor.now.bytes.now in
     let d = c.args.depth in
     let p = c.args.cursor.now.at in
@@ -49,7 +50,7 @@ returns-in-2 g t c =
 pub returns-in_err-o-in-3 : goal.returns-in_err-o-in-3
 returns-in_err-o-in-3 g t c =
     let a = g.G.Algebra.meaning c.args.self.now.alg.now in
-    let s = scoped c.args.self.now.scope in
+    let s = scope (kept_header c.args.self.now.header.now) in
     let f = c.args.cursor.now.bytes.now in
     let d = c.args.depth in
     let p = c.args.cursor.now.at in
@@ -63,7 +64,7 @@ returns-in_err-o-in-3 g t c =
 pub returns-in_err-check_term-in-3 : goal.returns-in_err-check_term-in-3
 returns-in_err-check_term-in-3 g t c =
     let a = g.G.Algebra.meaning c.args.self.now.alg.now in
-    let s = scoped c.args.self.now.scope in
+    let s = scope (kept_header c.args.self.now.header.now) in
     let f = c.args.cursor.now.bytes.now in
     let d = c.args.depth in
     let p = c.args.cursor.now.at in
@@ -83,7 +84,7 @@ returns-in_err-check_term-in-3 g t c =
 pub loop-k-preserved : goal.loop-k-preserved
 loop-k-preserved g t c =
     let a = g.G.Algebra.meaning c.args.self.now.alg.now in
-    let s = scoped c.args.self.now.scope in
+    let s = scope (kept_header c.args.self.now.header.now) in
     let f = c.args.cursor.now.bytes.now in
     let d = c.args.depth in
     let p = c.args.cursor.now.at in
@@ -100,7 +101,7 @@ loop-k-preserved g t c =
 pub returns-after-loop-k : goal.returns-after-loop-k
 returns-after-loop-k g t c =
     let a = g.G.Algebra.meaning c.args.self.now.alg.now in
-    let s = scoped c.args.self.now.scope in
+    let s = scope (kept_header c.args.self.now.header.now) in
     let f = c.args.cursor.now.bytes.now in
     let d = c.args.depth in
     let p = c.args.cursor.now.at in
@@ -117,7 +118,7 @@ returns-after-loop-k g t c =
 pub returns-in_err-suit-in-4-to-6 : goal.returns-in_err-suit-in-4-to-6
 returns-in_err-suit-in-4-to-6 g t c =
     let a = g.G.Algebra.meaning c.args.self.now.alg.now in
-    let s = scoped c.args.self.now.scope in
+    let s = scope (kept_header c.args.self.now.header.now) in
     let f = c.args.cursor.now.bytes.now in
     let d = c.args.depth in
     let p = c.args.cursor.now.at in
@@ -130,7 +131,7 @@ returns-in_err-suit-in-4-to-6 g t c =
 pub returns-in_err-check_term-in-4-to-6 : goal.returns-in_err-check_term-in-4-to-6
 returns-in_err-check_term-in-4-to-6 g t c =
     let a = g.G.Algebra.meaning c.args.self.now.alg.now in
-    let s = scoped c.args.self.now.scope in
+    let s = scope (kept_header c.args.self.now.header.now) in
     let f = c.args.cursor.now.bytes.now in
     let d = c.args.depth in
     let p = c.args.cursor.now.at in
@@ -148,7 +149,7 @@ returns-in_err-check_term-in-4-to-6 g t c =
 pub loop-preserved : goal.loop-preserved
 loop-preserved g t c =
     let a = g.G.Algebra.meaning c.args.self.now.alg.now in
-    let s = scoped c.args.self.now.scope in
+    let s = scope (kept_header c.args.self.now.header.now) in
     let f = c.args.cursor.now.bytes.now in
     let d = c.args.depth in
     let p = c.args.cursor.now.at in
@@ -164,7 +165,7 @@ loop-preserved g t c =
 pub returns-after-loop : goal.returns-after-loop
 returns-after-loop g t c =
     let a = g.G.Algebra.meaning c.args.self.now.alg.now in
-    let s = scoped c.args.self.now.scope in
+    let s = scope (kept_header c.args.self.now.header.now) in
     let f = c.args.cursor.now.bytes.now in
     let d = c.args.depth in
     let p = c.args.cursor.now.at in
@@ -179,7 +180,7 @@ returns-after-loop g t c =
 pub returns-in_err-suit-in_default : goal.returns-in_err-suit-in_default
 returns-in_err-suit-in_default g t c =
     let a = g.G.Algebra.meaning c.args.self.now.alg.now in
-    let s = scoped c.args.self.now.scope in
+    let s = scope (kept_header c.args.self.now.header.now) in
     let f = c.args.cursor.now.bytes.now in
     let d = c.args.depth in
     let p = c.args.cursor.now.at in
@@ -192,7 +193,7 @@ returns-in_err-suit-in_default g t c =
 pub returns-in_err-sort-in_default : goal.returns-in_err-sort-in_default
 returns-in_err-sort-in_default g t c =
     let a = g.G.Algebra.meaning c.args.self.now.alg.now in
-    let s = scoped c.args.self.now.scope in
+    let s = scope (kept_header c.args.self.now.header.now) in
     let f = c.args.cursor.now.bytes.now in
     let d = c.args.depth in
     let p = c.args.cursor.now.at in
@@ -206,7 +207,7 @@ returns-in_err-sort-in_default g t c =
 pub returns-in_err-check_term-in_default : goal.returns-in_err-check_term-in_default
 returns-in_err-check_term-in_default g t c =
     let a = g.G.Algebra.meaning c.args.self.now.alg.now in
-    let s = scoped c.args.self.now.scope in
+    let s = scope (kept_header c.args.self.now.header.now) in
     let f = c.args.cursor.now.bytes.now in
     let d = c.args.depth in
     let p = c.args.cursor.now.at in
@@ -224,7 +225,7 @@ returns-in_err-check_term-in_default g t c =
 pub returns-in_ok-check_term-in_default : goal.returns-in_ok-check_term-in_default
 returns-in_ok-check_term-in_default g t c =
     let a = g.G.Algebra.meaning c.args.self.now.alg.now in
-    let s = scoped c.args.self.now.scope in
+    let s = scope (kept_header c.args.self.now.header.now) in
     let f = c.args.cursor.now.bytes.now in
     let d = c.args.depth in
     let p = c.args.cursor.now.at in

@@ -1,9 +1,8 @@
 use Rattle.std.proofs.Common.{ℕ, ◌+◌, map, ap, ◌∙◌, arith}
 use Rattle.definitions.specs.Lists.{up_to}
 use Rattle.definitions.specs.Reading.{next, stop, take}
-use Rattle.definitions.specs.ReadSystem.{read_occurrence}
+use Rattle.definitions.specs.ReadSystem.{read_occurrence, scope}
 use Rattle.system.specs.Files.{kept_header}
-use Rattle.system.specs.Steps.{scoped}
 use Rattle.system.proofs.Chains.{clause_done}
 use Rattle.system.proofs.Rows.{stopped, skipped_next, skipped_stop, skipped_end, at_up_to, length_from}
 use Rattle.system.proofs.term.Checker.check_clause.Goals as goal
@@ -12,7 +11,7 @@ pub returns-in_err-check_occurrence : goal.returns-in_err-check_occurrence
 returns-in_err-check_occurrence g c =
     let a = g.G.Algebra.meaning c.args.self.now.alg.now in
     let hs = map kept_header c.args.self.now.headers.now in
-    let s = scoped c.args.self.now.scope in
+    let s = scope (kept_header c.args.self.now.header.now) in
     let f = c.args.cursor.now.bytes.now in
     let p = c.args.cursor.now.at in
     let m = c.check_of.new.cursor in
@@ -27,7 +26,7 @@ returns-in_err-check_occurrence g c =
 
 pub loop-preserved : goal.loop-preserved
 loop-preserved g c =
-    let r = λ (_ : ℕ). read_occurrence (g.G.Algebra.meaning c.args.self.now.alg.now) (map kept_header c.args.self.now.headers.now) (scoped c.args.self.now.scope) in
+    let r = λ (_ : ℕ). read_occurrence (g.G.Algebra.meaning c.args.self.now.alg.now) (map kept_header c.args.self.now.headers.now) (scope (kept_header c.args.self.now.header.now)) in
     let n = c.in_ok-more.more in
     let l = c.loop in
     skipped_next r (up_to (n + 1)) c.check_occurrence.new.cursor l.counter (at_up_to (n + 1) l.counter (omega arith)) l.invariant c.in_ok-check_occurrence.ensures
@@ -36,7 +35,7 @@ pub returns : goal.returns
 returns g c =
     let a = g.G.Algebra.meaning c.args.self.now.alg.now in
     let hs = map kept_header c.args.self.now.headers.now in
-    let s = scoped c.args.self.now.scope in
+    let s = scope (kept_header c.args.self.now.header.now) in
     let f = c.args.cursor.now.bytes.now in
     let p = c.args.cursor.now.at in
     let m = c.check_of.new.cursor in

@@ -1,8 +1,8 @@
 use Rattle.std.proofs.Common.{map, get_or, sym, ap, ◌∙◌, arith}
 use Rattle.definitions.specs.Reading.{next, stop, one_by_one}
-use Rattle.definitions.specs.ReadSystem.{read_of}
+use Rattle.definitions.specs.ReadSystem.{read_of, scope}
 use Rattle.system.specs.Files.{kept_header}
-use Rattle.system.specs.Steps.{placed, scoped}
+use Rattle.system.specs.Steps.{placed}
 use Rattle.system.proofs.Chains.{occurrence_done}
 use Rattle.system.proofs.Lists.{at_some}
 use Rattle.system.proofs.Rows.{stopped, skipped_next, skipped_stop, skipped_end}
@@ -12,7 +12,7 @@ pub returns-in_err-check_of : goal.returns-in_err-check_of
 returns-in_err-check_of g c =
     let a = g.G.Algebra.meaning c.args.self.now.alg.now in
     let hs = map kept_header c.args.self.now.headers.now in
-    let s = scoped c.args.self.now.scope in
+    let s = scope (kept_header c.args.self.now.header.now) in
     let f = c.args.cursor.now.bytes.now in
     let p = c.args.cursor.now.at in
     let h = c.in_ok-header.header in
@@ -26,7 +26,7 @@ returns-in_err-check_of g c =
 
 pub loop-sort-preserved : goal.loop-sort-preserved
 loop-sort-preserved g c =
-    let r = read_of (g.G.Algebra.meaning c.args.self.now.alg.now) (scoped c.args.self.now.scope) in
+    let r = read_of (g.G.Algebra.meaning c.args.self.now.alg.now) (scope (kept_header c.args.self.now.header.now)) in
     let ss = c.as_slice-sort-items.result.now in
     let l = c.loop-sort in
     skipped_next r ss c.check_of.new.cursor (get_or ss l.sort-index 0) (sym (at_some ss l.sort-index (omega arith))) l.invariant c.in_ok-check_of.ensures
@@ -35,7 +35,7 @@ pub returns : goal.returns
 returns g c =
     let a = g.G.Algebra.meaning c.args.self.now.alg.now in
     let hs = map kept_header c.args.self.now.headers.now in
-    let s = scoped c.args.self.now.scope in
+    let s = scope (kept_header c.args.self.now.header.now) in
     let f = c.args.cursor.now.bytes.now in
     let p = c.args.cursor.now.at in
     let h = c.in_ok-header.header in
