@@ -1,5 +1,9 @@
 -- One reader after another, with their values forgotten.
-use Rattle.std.proofs.Common.{◌≡◌, ℕ, zero, suc, ◌+◌, ◌<◌, ◌≤◌, List, [], ◌∷◌, map, length, get_or, take as front, Some, None, refl, ap, ◌∙◌, add-one, arith}
+use Rattle.std.proofs.Common.{◌≡◌, ℕ, zero, suc, ◌+◌, ◌<◌, ◌≤◌, List, [], ◌∷◌, map, length, get_or, take as front, Some, None, Option, Bor, refl, ap, ◌∙◌, add-one, arith}
+use Rattle.std.specs.Option.{option_map}
+use Rattle.std.specs.Slice.{IsItemAt}
+use Rattle.system.specs.declared.header.Quantified.{Quantified as Kept}
+use Rattle.system.specs.Files.{kept_quantified}
 use Rattle.faults.specs.declared.Reason.{Reason}
 use Rattle.faults.specs.declared.Reason.TheVariants.{NoSuchName}
 use Rattle.definitions.specs.Lists.{at, up_to, bind}
@@ -57,3 +61,15 @@ module _ (a : Alg) (hs : List Header) (c : Scope) (f : List ℕ) where
 pub body_done : (a : Alg) (hs : List Header) (h : Header) (f : List ℕ) (p o n q : ℕ) → next tt o ≡ placed (read_of a (scope h) 0 f p) → next n q ≡ take 4 f o → (w : Step (Unit {0})) → w ≡ placed (one_by_one (λ (_ : ℕ). read_clause a hs (scope h)) (up_to n) f q) → w ≡ placed (read_body a hs h f p)
 body_done a hs h f p o n q e k w l =
     after (read_of a (scope h) 0 f p) _ o w e (λ t. exactly (take 4 f o) _ n q w k (l ∙ ap placed (counted (read_clause a hs (scope h)) 0 n f q) ∙ wrapped {B = Equation} (λ cs. record { sign = h.sign; sorts = h.sorts; quantified = h.quantified; h = t; clauses = cs }) (repeated (read_clause a hs (scope h)) n f q)))
+
+-- the sort of a quantified variable by its number
+pub variable_at : (xs : List Kept) (n : ℕ) (r : Option (Bor Kept)) → IsItemAt xs n r → option_map (λ (x : Bor Kept). x.now.sort) r ≡ at (map (λ q. q.sort) (map kept_quantified xs)) n
+variable_at xs n r e = go r e ∙ ap (λ ys. at ys n) (fused xs)
+  where
+    fused : (xs : List Kept) → map (λ (q : Kept). q.sort) xs ≡ map (λ q. q.sort) (map kept_quantified xs)
+    fused [] = refl
+    fused (x ∷ xs) = ap (λ ys. x.sort ∷ ys) (fused xs)
+
+    go : (r : Option (Bor Kept)) → IsItemAt xs n r → option_map (λ (x : Bor Kept). x.now.sort) r ≡ at (map (λ (q : Kept). q.sort) xs) n
+    go None e = at_none (λ (q : Kept). q.sort) xs n e.3
+    go (Some x) e = at_item (λ (q : Kept). q.sort) xs n x.now e.3.0 e.1

@@ -43,12 +43,7 @@ fn suit(need: Option<u8>, sort: u8, place: usize) -> Result<(), Stop>
 }
 
 // The sort of a parameter or variable, whose number stands at the place, of the term at `start`.
-fn check_name(
-    sort: Option<u8>,
-    place: usize,
-    start: usize,
-    need: Option<u8>,
-) -> Result<u8, Stop>
+fn check_name(sort: Option<u8>, place: usize, start: usize, need: Option<u8>) -> Result<u8, Stop>
     ensures { (f : List ℕ) (p : ℕ) → told (λ s. s) p result ≡ named sort place start need f p }
 {
     let sort = sort.ok_or(Stop {

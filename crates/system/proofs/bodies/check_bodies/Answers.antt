@@ -58,11 +58,11 @@ loop-header-preserved g c =
     let t : Equation = record { header = x; body = l.cursor.at } in
     let added : listed c.push.new.self ≡ ts ++ (t ∷ []) = c.push.ensures.added (omega arith) in
     let more : take i c.args.headers.now ++ (x ∷ []) ≡ take (i + 1) c.args.headers.now =
-        ap (λ z. take i c.args.headers.now ++ (z ∷ [])) c.header-item.is ∙ sym (take-suc c.args.headers.now i x (omega arith)) ∙ ap (λ k. take k c.args.headers.now) (sym (add-one i)) in (
+    ap (λ z. take i c.args.headers.now ++ (z ∷ [])) c.header-item.is ∙ sym (take-suc c.args.headers.now i x (omega arith)) ∙ ap (λ k. take k c.args.headers.now) (sym (add-one i)) in (
       ap (map (λ (e : Equation). e.header)) added ∙ map-append (λ (e : Equation). e.header) ts (t ∷ []) ∙ ap (λ zs. zs ++ (x ∷ [])) l.invariant.0 ∙ more,
       l.invariant.1 ∙
-      places_next r hs f (kept_header x) (map (λ (e : Equation). e.body) ts) i l.cursor.at new.at h (c.in_ok-check_body.ensures.0 ∙ ap (λ g. placed (r (kept_header x) g l.cursor.at)) l.invariant.2.same) ∙
-      ap (λ zs. zs ++ places_of r (drop (i + 1) hs) f new.at) (sym (map-append (λ (e : Equation). e.body) ts (t ∷ [])) ∙ ap (map (λ (e : Equation). e.body)) (sym added)),
+          places_next r hs f (kept_header x) (map (λ (e : Equation). e.body) ts) i l.cursor.at new.at h (c.in_ok-check_body.ensures.0 ∙ ap (λ g. placed (r (kept_header x) g l.cursor.at)) l.invariant.2.same) ∙
+          ap (λ zs. zs ++ places_of r (drop (i + 1) hs) f new.at) (sym (map-append (λ (e : Equation). e.body) ts (t ∷ [])) ∙ ap (map (λ (e : Equation). e.body)) (sym added)),
       skipped_next r hs new (kept_header x) h l.invariant.2 c.in_ok-check_body.ensures,
     )
 

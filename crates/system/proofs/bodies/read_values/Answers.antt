@@ -33,7 +33,7 @@ loop-i-preserved g c =
     let r = read_value_of (g.G.Algebra.meaning c.args.alg.now) in (
       length-set l.values l.i x ∙ l.invariant.0,
       subst (λ vs. Kept r ss (l.i + 1) vs c.args.cursor.now.bytes.now c.args.cursor.now.at c.read_value.new.cursor) (rw add-one (take_set l.values l.i x (omega (arith, l.invariant.0))))
-      (kept_next r ss c.read_value.new.cursor (get_or ss l.i 0) x (sym (at_some ss l.i (omega arith))) l.invariant.1 c.in_ok-values.ensures),
+          (kept_next r ss c.read_value.new.cursor (get_or ss l.i 0) x (sym (at_some ss l.i (omega arith))) l.invariant.1 c.in_ok-values.ensures),
       zeros_next l.values l.i 15 x l.invariant.2 (omega arith),
     )
 
