@@ -17,14 +17,6 @@ shut : {X : Type 0} (s : ℕ) (g : X → Sorted) → ((x : X) → (g x).the_sort
 shut s g h (next x q) = ap (λ n. next n q) (h x)
 shut s g h (stop r q) = refl
 
-pub cut : (a : Alg) (c : Scope) (d : ℕ) (need : Option ℕ) (f : List ℕ) (p : ℕ) (r : Reason) (t : ℕ) → stop r t ≡ take 3 f p → stop r t ≡ sorts (read_term a c d need f p)
-cut a c zero need f p r t e = ap (λ m. sorts (follow m (λ _ _. stop TooDeep p))) e
-cut a c (suc d) need f p r t e = ap (λ m. sorts (follow m (λ k q. read_kind a c (read_term a c d) p need k f q))) e
-
-pub deep : (a : Alg) (c : Scope) (d : ℕ) (need : Option ℕ) (f : List ℕ) (p k q : ℕ) → d ≡ 0 → next k q ≡ take 3 f p → stop TooDeep p ≡ sorts (read_term a c d need f p)
-deep a c zero need f p k q z e = ap (λ m. sorts (follow m (λ _ _. stop TooDeep p))) e
-deep a c (suc d) need f p k q z e = absurd (omega arith)
-
 -- a term behind its kind
 pub opened : (a : Alg) (c : Scope) (d : ℕ) (need : Option ℕ) (f : List ℕ) (p k q n : ℕ) → (d ≡ 0 → ⊥) → next k q ≡ take 3 f p → k ≡ n → sorts (read_kind a c (read_term a c (d - 1)) p need n f q) ≡ sorts (read_term a c d need f p)
 opened a c zero need f p k q n ne e i = absurd (ne refl)

@@ -21,10 +21,6 @@ after (stop r t) k q w e h = let z : ◌≡◌ {A = ℕ} 0 1 = cc in absurd (ome
 pub exactly : {A B : Type 0} (m : Step A) (k : A → ℕ → Step B) (x : A) (q : ℕ) (w : Step (Unit {0})) → next x q ≡ m → w ≡ placed (k x q) → w ≡ placed (follow m k)
 exactly m k x q w e h = h ∙ ap (λ z. placed (follow z k)) e
 
-pub refused : {A B : Type 0} (m : Step A) (k : A → ℕ → Step B) (r : Reason) (t : ℕ) → stop r t ≡ placed m → stop r t ≡ placed (follow m k)
-refused (next x u) k r t e = let z : ◌≡◌ {A = ℕ} 0 1 = cc in absurd (omega arith)
-refused (stop s u) k r t e = e
-
 pub wrapped : {A B : Type 0} (g : A → B) (m : Step A) → placed m ≡ placed (follow m (λ x q. next (g x) q))
 wrapped g (next x q) = refl
 wrapped g (stop r q) = refl

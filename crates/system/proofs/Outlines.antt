@@ -63,12 +63,6 @@ each_tells {X} {B} g r f t (x ∷ xs) p ys q e = go (λ u zs v. each_tells g r f
     go ih (next y u) k e = rest y (t x p y u k) (one_by_one r xs f u) (ih u) e
     go ih (stop s u) k e = let z : ◌≡◌ {A = ℕ} 0 1 = cc in absurd (omega arith)
 
-pub get_or_front : (ps : List ℕ) (n i : ℕ) → i < n → get_or (front n ps) i 0 ≡ get_or ps i 0
-get_or_front ps zero i h = absurd (omega arith)
-get_or_front [] (suc n) i h = refl
-get_or_front (p ∷ ps) (suc n) zero h = refl
-get_or_front (p ∷ ps) (suc n) (suc i) h = get_or_front ps n i (omega arith)
-
 module _ (a : Alg) (hs : List Header) (f : List ℕ) (p : ℕ) where
   pub rest_no_bodies : (r : Reason) (t : ℕ) → stop r t ≡ placed (one_by_one (read_body a hs) hs f p) → read_rest a hs f p ≡ stop r t
   rest_no_bodies r t e = ap (λ m. follow m (λ es q. follow (read_target hs f q) (λ t q. follow (one_by_one (read_value_of a) t.1.sorts f q) (λ vs q. next (record { equations = es; start = t.0; values = vs }) q)))) (was_stop (one_by_one (read_body a hs) hs f p) r t e)

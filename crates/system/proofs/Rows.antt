@@ -1,5 +1,6 @@
 -- Readings of one thing after another.
 use Rattle.std.proofs.Common.{◌≡◌, ℕ, zero, suc, ◌+◌, ◌-◌, ◌<◌, ◌≤◌, List, [], ◌∷◌, ◌++◌, map, length, get_or, drop, Some, None, IsErrAnd, Option, Result, sym, refl, ap, ◌∙◌, zero-add, add-one, arith}
+use Rattle.std.proofs.lemmas.List.{append-nil, append_assoc, drop_all}
 use Rattle.faults.specs.declared.Reason.{Reason}
 use Rattle.faults.specs.declared.Stop.{Stop}
 use Rattle.definitions.specs.Lists.{at, from, up_to}
@@ -11,8 +12,6 @@ use Rattle.bits.specs.Told.{told, Reads}
 use Rattle.bits.proofs.InRow.{passed}
 use Rattle.system.specs.Steps.{sorts, placed}
 use Rattle.system.specs.Rows.{Skipped, Kept}
-use Rattle.system.proofs.Lists.{drop_end}
-use Rattle.system.proofs.Fills.{snoc_at, nil}
 
 -- what `?` hands on of a reading that stopped
 pub stopped : {T Y : Type 0} (what : T → Y) (q : ℕ) (res : Result T Stop) (e : Stop) (m : Step Y) → IsErrAnd res (λ y. y ≡ e) → stop e.reason e.place ≡ m → told what q res ≡ m
@@ -43,7 +42,18 @@ stop_at : {A B : Type 0} (k : B → ℕ → Step A) (r : Reason) (q : ℕ) (m : 
 stop_at k r q (next y t) e = let z : ◌≡◌ {A = ℕ} 0 1 = cc in absurd (omega arith)
 stop_at k r q (stop s t) e = e
 
+snoc_at : {X : Type 0} (xs : List X) (x : X) (m : Step (List X)) → before xs (follow m (λ ys q. next (x ∷ ys) q)) ≡ before (xs ++ (x ∷ [])) m
+snoc_at xs x (next ys q) = ap (λ zs. next zs q) (sym (append_assoc xs (x ∷ []) ys))
+snoc_at xs x (stop r q) = refl
+
 module _ {X B : Type 0} (r : X → Reader B) (xs : List X) where
+  pub kept_first : (c : Cursor) (f : List ℕ) → c.bytes.now ≡ f → Kept r xs 0 [] f c.at c
+  kept_first c f e = record { same = e; rest = begin (one_by_one r xs f c.at) }
+    where
+      begin : (m : Step (List B)) → m ≡ before [] m
+      begin (next ys q) = refl
+      begin (stop s q) = refl
+
   pub skipped_next : {i : ℕ} {f : List ℕ} {p : ℕ} {now : Cursor} (new : Cursor) (x : X) → at xs i ≡ Some x → Skipped r xs i f p now → (next tt new.at ≡ placed (r x now.bytes.now now.at)) × (new.bytes.now ≡ now.bytes.now) → Skipped r xs (i + 1) f p new
   skipped_next {i = i} {f = f} {now = now} new x h b k = record {
     same = k.1 ∙ b.same;
@@ -58,7 +68,7 @@ module _ {X B : Type 0} (r : X → Reader B) (xs : List X) where
       sym (b.rest ∙ ap (λ ys. placed (one_by_one r ys f now.at)) (dropped xs i x h))
 
   pub skipped_end : {i : ℕ} {f : List ℕ} {p : ℕ} {now : Cursor} → length xs ≤ i → Skipped r xs i f p now → next tt now.at ≡ placed (one_by_one r xs f p)
-  skipped_end {i = i} {f = f} {now = now} h b = sym (b.rest ∙ ap (λ ys. placed (one_by_one r ys f now.at)) (drop_end xs i h))
+  skipped_end {i = i} {f = f} {now = now} h b = sym (b.rest ∙ ap (λ ys. placed (one_by_one r ys f now.at)) (drop_all i xs h))
 
   pub kept_next : {i : ℕ} {ys : List B} {f : List ℕ} {p : ℕ} {now : Cursor} (new : Cursor) (x : X) (y : B) → at xs i ≡ Some x → Kept r xs i ys f p now → (next y new.at ≡ r x now.bytes.now now.at) × (new.bytes.now ≡ now.bytes.now) → Kept r xs (i + 1) (ys ++ (y ∷ [])) f p new
   kept_next {i = i} {ys = ys} {f = f} {now = now} new x y h b k = record {
@@ -74,7 +84,7 @@ module _ {X B : Type 0} (r : X → Reader B) (xs : List X) where
       sym (b.rest ∙ ap (λ zs. before ys (one_by_one r zs f now.at)) (dropped xs i x h))
 
   pub kept_end : {i : ℕ} {ys : List B} {f : List ℕ} {p : ℕ} {now : Cursor} → length xs ≤ i → Kept r xs i ys f p now → next ys now.at ≡ one_by_one r xs f p
-  kept_end {i = i} {ys = ys} {f = f} {now = now} h b = sym (b.rest ∙ ap (λ zs. before ys (one_by_one r zs f now.at)) (drop_end xs i h) ∙ ap (λ w. next w now.at) (nil ys))
+  kept_end {i = i} {ys = ys} {f = f} {now = now} h b = sym (b.rest ∙ ap (λ zs. before ys (one_by_one r zs f now.at)) (drop_all i xs h) ∙ ap (λ w. next w now.at) (append-nil ys))
 
 -- a count as a row of numbers
 pub at_from : (k n i : ℕ) → i < n → at (from k n) i ≡ Some (k + i)

@@ -1,12 +1,11 @@
--- Readers over lists, with their values forgotten.
+-- The places of readers in a row, and what is read at each.
 use Rattle.std.proofs.Common.{◌≡◌, ℕ, zero, suc, ◌+◌, ◌<◌, ◌≤◌, List, [], ◌∷◌, ◌++◌, map, length, get_or, take as front, drop, set, Some, None, sym, refl, ap, ◌∙◌, add-one, arith, drop-cons}
+use Rattle.std.proofs.lemmas.List.{append-nil, append_assoc, drop_all}
 use Rattle.faults.specs.declared.Reason.{Reason}
 use Rattle.definitions.specs.Reading.{Step, next, stop, Reader, follow, one_by_one}
 use Rattle.definitions.specs.Lists.{at}
 use Rattle.system.specs.Steps.{placed}
 use Rattle.system.specs.Bodies.{places_of}
-use Rattle.system.proofs.Fills.{snoc, nil}
-use Rattle.system.proofs.Lists.{drop_end}
 use Rattle.system.proofs.Rows.{dropped}
 
 -- the places of readers in a row
@@ -15,7 +14,7 @@ module _ {X B : Type 0} (r : X → Reader B) (xs : List X) (f : List ℕ) where
   places_next x ps i p q h e =
       ap (λ ys. ps ++ places_of r ys f p) (dropped xs i x h) ∙
       ap (λ zs. ps ++ (p ∷ zs)) (go (r x f p) e) ∙
-      snoc ps p (places_of r (drop (suc i) xs) f q) ∙
+      sym (append_assoc ps (p ∷ []) (places_of r (drop (suc i) xs) f q)) ∙
       ap (λ j. (ps ++ (p ∷ [])) ++ places_of r (drop j xs) f q) (sym (add-one i))
     where
       go : (m : Step B) → next tt q ≡ placed m → elim m [ next y t ↦ places_of r (drop (suc i) xs) f t | stop s t ↦ [] ] ≡ places_of r (drop (suc i) xs) f q
@@ -23,7 +22,7 @@ module _ {X B : Type 0} (r : X → Reader B) (xs : List X) (f : List ℕ) where
       go (stop s t) e = let z : ◌≡◌ {A = ℕ} 0 1 = cc in absurd (omega arith)
 
   pub places_end : (ps : List ℕ) (i p : ℕ) → length xs ≤ i → ps ++ places_of r (drop i xs) f p ≡ ps
-  places_end ps i p h = ap (λ ys. ps ++ places_of r ys f p) (drop_end xs i h) ∙ nil ps
+  places_end ps i p h = ap (λ ys. ps ++ places_of r ys f p) (drop_all i xs h) ∙ append-nil ps
 
 -- what is read at each of them
 abbrev pub ReadAt : {X B : Type 0} → List ℕ → (X → Reader B) → List X → List ℕ → ℕ → B → Type 0

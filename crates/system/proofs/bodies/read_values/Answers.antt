@@ -1,15 +1,16 @@
 use Rattle.std.proofs.Common.{◌≡◌, ◌+◌, [], ◌∷◌, ◌++◌, length, get_or, take, set, sym, refl, ap, ◌∙◌, subst, add-one, arith, length-set}
+use Rattle.std.proofs.Math.Seq.{take-suc-set}
 use Rattle.definitions.specs.Reading.{next}
 use Rattle.definitions.specs.ReadSystem.{read_value_of}
 use Rattle.bits.proofs.InRow.{passed}
 use Rattle.system.specs.Rows.{Kept}
 use Rattle.system.proofs.Lists.{at_some}
-use Rattle.system.proofs.Rows.{stopped, kept_next, kept_stop, kept_end}
-use Rattle.system.proofs.Fills.{begin, take_set, zeros_next, zeros_end}
+use Rattle.system.proofs.Rows.{stopped, kept_first, kept_next, kept_stop, kept_end}
+use Rattle.system.proofs.Fills.{zeros_next, zeros_end}
 use Rattle.system.proofs.bodies.read_values.Goals as goal
 
 pub loop-i-init : goal.loop-i-init
-loop-i-init g c = (refl, record { same = refl; rest = begin _ }, refl)
+loop-i-init g c = (refl, kept_first (read_value_of (g.G.Algebra.meaning c.args.alg.now)) c.args.sorts.now c.args.cursor.now c.args.cursor.now.bytes.now refl, refl)
 
 pub returns-in_err-values : goal.returns-in_err-values
 returns-in_err-values g c =
@@ -32,7 +33,7 @@ loop-i-preserved g c =
     let l = c.loop-i in
     let r = read_value_of (g.G.Algebra.meaning c.args.alg.now) in (
       length-set l.values l.i x ∙ l.invariant.0,
-      subst (λ vs. Kept r ss (l.i + 1) vs c.args.cursor.now.bytes.now c.args.cursor.now.at c.read_value.new.cursor) (rw add-one (take_set l.values l.i x (omega (arith, l.invariant.0))))
+      subst (λ vs. Kept r ss (l.i + 1) vs c.args.cursor.now.bytes.now c.args.cursor.now.at c.read_value.new.cursor) (rw add-one (sym (take-suc-set l.values l.i x (omega (arith, l.invariant.0)))))
           (kept_next r ss c.read_value.new.cursor (get_or ss l.i 0) x (sym (at_some ss l.i (omega arith))) l.invariant.1 c.in_ok-values.ensures),
       zeros_next l.values l.i 15 x l.invariant.2 (omega arith),
     )

@@ -79,7 +79,6 @@ returns-in_err-values-clause-reads g c =
     let u = c.read_target.new.cursor.at in
     let t = c.in_ok-equation.ensures.reads.0 ∙ ap (λ g. read_target hs g q) d in
     let o = c.in_ok-equation.ensures.reads.1 ∙ d in
-    let ss = c.as_slice.result.now in
     let z = c.in_err-values.field-0.0 in
     subst (SystemTold a f) (sym (passed c.from_residual-in_err-values.result z c.from_residual-in_err-values.ensures.1)) (s ∙ rest_no_values a hs f p q w i (kept_header h) u t z.reason z.place (c.in_err-values.ensures.reads.0 ∙ ap (λ zs. one_by_one (read_value_of a) zs c.read_target.new.cursor.bytes.now u) c.as_slice.ensures ∙ ap (λ g. one_by_one (read_value_of a) (kept_header h).sorts g u) o))
 
@@ -101,7 +100,6 @@ returns-clause-reads g c =
     let w = c.in_ok-equations.ensures.reads.0 ∙ ap (λ g. placed (one_by_one (read_body a hs) hs g p)) b in
     let d = c.in_ok-equations.ensures.reads.1 ∙ b in
     let h = c.in_ok-equation.header in
-    let i = c.in_ok-equation.equation in
     let u = c.read_target.new.cursor.at in
     let t = c.in_ok-equation.ensures.reads.0 ∙ ap (λ g. read_target hs g q) d in
     let o = c.in_ok-equation.ensures.reads.1 ∙ d in

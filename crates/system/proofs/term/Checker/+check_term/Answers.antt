@@ -85,14 +85,10 @@ pub loop-k-preserved : goal.loop-k-preserved
 loop-k-preserved g t c =
     let a = g.G.Algebra.meaning c.args.self.now.alg.now in
     let s = scope (kept_header c.args.self.now.header.now) in
-    let f = c.args.cursor.now.bytes.now in
     let d = c.args.depth in
-    let p = c.args.cursor.now.at in
     let n = c.args.need in
-    let m = c.field.new.self in
     let part = read_term a s (d - 1) in
     let h = c.in_ok-o-in-3.o in
-    let q = c.check_operation.new.cursor.at in
     let r = λ (k : ℕ). part (a.arg_sort h.op k) in
     let l = c.loop-k in
     let x = c.in_ok-check_term-in-3.ensures in
@@ -150,11 +146,8 @@ pub loop-preserved : goal.loop-preserved
 loop-preserved g t c =
     let a = g.G.Algebra.meaning c.args.self.now.alg.now in
     let s = scope (kept_header c.args.self.now.header.now) in
-    let f = c.args.cursor.now.bytes.now in
     let d = c.args.depth in
-    let p = c.args.cursor.now.at in
     let n = c.args.need in
-    let m = c.field.new.self in
     let part = read_term a s (d - 1) in
     let k = c.if-kind-eq4.count in
     let r = λ (_ : ℕ). part (Some 0) in
