@@ -1,21 +1,27 @@
-use Rattle.std.proofs.Common.{◌+◌, map, take, set, sym, ap, ◌∙◌, add-one, arith, length-set}
+use Rattle.std.proofs.Common.{◌≡◌, ◌<◌, [], ◌∷◌, map, length, arith}
+use Rattle.std.proofs.lemmas.List.{length-map, map-append}
 use Rattle.definitions.specs.ReadSystem.{read_header}
-use Rattle.system.specs.Files.{told_headers, kept_header}
-use Rattle.system.proofs.Rows.{passed}
-use Rattle.system.proofs.Fills.{fill_next, fill_stop, map_set}
+use Rattle.bits.proofs.InRow.{begun_first, begun_next, begun_stop, begun_end}
+use Rattle.rows.specs.Listed.{listed}
+use Rattle.system.specs.Files.{kept_header}
 use Rattle.system.proofs.headers.read_headers.Goals as goal
 
-pub returns-in_err-x : goal.returns-in_err-x
-returns-in_err-x g c =
-    let e = c.in_err-x.field-0.0 in
-    ap (told_headers c.args.count) (passed c.from_residual.result e c.from_residual.ensures.1) ∙
-    sym (c.loop-i.invariant.1 ∙ fill_stop c.args.bytes.now (read_header (g.G.Algebra.meaning c.args.alg.now)) (map kept_header (take c.loop-i.i c.loop-i.table)) c.args.count c.loop-i.i c.loop-i.next e.reason e.place (omega arith) c.in_err-x.ensures)
+pub loop-init : goal.loop-init
+loop-init g c = rw c.new-headers.ensures (begun_first (read_header (g.G.Algebra.meaning c.args.alg.now)) c.args.count c.args.cursor.now)
 
-pub loop-i-preserved : goal.loop-i-preserved
-loop-i-preserved g c =
-    let x = c.in_ok-x.x in
-    let i = c.loop-i.i in
-    let xs = c.loop-i.table in (
-      length-set xs i x.header ∙ c.loop-i.invariant.0,
-      c.loop-i.invariant.1 ∙ fill_next c.args.bytes.now (read_header (g.G.Algebra.meaning c.args.alg.now)) (map kept_header (take i xs)) (map kept_header (take (i + 1) (set xs i x.header))) c.args.count i c.loop-i.next x.next (kept_header x.header) (omega arith) c.in_ok-x.ensures (rw add-one (map_set kept_header xs i x.header (omega arith))),
-    )
+pub returns-in_err-header : goal.returns-in_err-header
+returns-in_err-header g c =
+    begun_stop (read_header (g.G.Algebra.meaning c.args.alg.now)) c.read_header.new.cursor (λ r. map kept_header (listed r)) c.from_residual.result c.in_err-header.field-0.0 (omega arith) c.loop.invariant c.in_err-header.ensures c.from_residual.ensures.1
+
+pub unwrap-requires : goal.unwrap-requires
+unwrap-requires g c =
+    let n = c.loop.invariant.count in
+    let e = length-map (listed c.loop.headers) kept_header in c.push.ensures.room.1 (omega arith)
+
+pub loop-preserved : goal.loop-preserved
+loop-preserved g c =
+    let n = c.loop.invariant.count in
+    let e = length-map (listed c.loop.headers) kept_header in rw (c.push.ensures.added (omega arith)) (rw (map-append kept_header (listed c.loop.headers) (c.in_ok-header.header ∷ [])) (begun_next (read_header (g.G.Algebra.meaning c.args.alg.now)) c.read_header.new.cursor (kept_header c.in_ok-header.header) (omega arith) c.loop.invariant c.in_ok-header.ensures))
+
+pub returns : goal.returns
+returns g c = (begun_end (read_header (g.G.Algebra.meaning c.args.alg.now)) (omega arith) c.loop.invariant, c.loop.invariant.same)

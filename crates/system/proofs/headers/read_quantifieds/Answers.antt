@@ -1,21 +1,27 @@
-use Rattle.std.proofs.Common.{◌+◌, map, take, set, sym, ap, ◌∙◌, add-one, arith, length-set}
+use Rattle.std.proofs.Common.{◌≡◌, ◌<◌, [], ◌∷◌, map, length, arith}
+use Rattle.std.proofs.lemmas.List.{length-map, map-append}
 use Rattle.definitions.specs.ReadSystem.{read_quantified}
-use Rattle.system.specs.Files.{told_quantifieds, kept_quantified}
-use Rattle.system.proofs.Rows.{passed}
-use Rattle.system.proofs.Fills.{fill_next, fill_stop, map_set}
+use Rattle.bits.proofs.InRow.{begun_first, begun_next, begun_stop, begun_end}
+use Rattle.rows.specs.Listed.{listed}
+use Rattle.system.specs.Files.{kept_quantified}
 use Rattle.system.proofs.headers.read_quantifieds.Goals as goal
 
-pub returns-in_err-x : goal.returns-in_err-x
-returns-in_err-x g c =
-    let e = c.in_err-x.field-0.0 in
-    ap (told_quantifieds c.args.count) (passed c.from_residual.result e c.from_residual.ensures.1) ∙
-    sym (c.loop-i.invariant.1 ∙ fill_stop c.args.bytes.now (read_quantified (g.G.Algebra.meaning c.args.alg.now)) (map kept_quantified (take c.loop-i.i c.loop-i.quantified)) c.args.count c.loop-i.i c.loop-i.next e.reason e.place (omega arith) c.in_err-x.ensures)
+pub loop-init : goal.loop-init
+loop-init g c = rw c.new-quantified.ensures (begun_first (read_quantified (g.G.Algebra.meaning c.args.alg.now)) c.args.count c.args.cursor.now)
 
-pub loop-i-preserved : goal.loop-i-preserved
-loop-i-preserved g c =
-    let x = c.in_ok-x.x in
-    let i = c.loop-i.i in
-    let xs = c.loop-i.quantified in (
-      length-set xs i x.quantified ∙ c.loop-i.invariant.0,
-      c.loop-i.invariant.1 ∙ fill_next c.args.bytes.now (read_quantified (g.G.Algebra.meaning c.args.alg.now)) (map kept_quantified (take i xs)) (map kept_quantified (take (i + 1) (set xs i x.quantified))) c.args.count i c.loop-i.next x.next (kept_quantified x.quantified) (omega arith) c.in_ok-x.ensures (rw add-one (map_set kept_quantified xs i x.quantified (omega arith))),
-    )
+pub returns-in_err-variable : goal.returns-in_err-variable
+returns-in_err-variable g c =
+    begun_stop (read_quantified (g.G.Algebra.meaning c.args.alg.now)) c.read_quantified.new.cursor (λ r. map kept_quantified (listed r)) c.from_residual.result c.in_err-variable.field-0.0 (omega arith) c.loop.invariant c.in_err-variable.ensures c.from_residual.ensures.1
+
+pub unwrap-requires : goal.unwrap-requires
+unwrap-requires g c =
+    let n = c.loop.invariant.count in
+    let e = length-map (listed c.loop.quantified) kept_quantified in c.push.ensures.room.1 (omega arith)
+
+pub loop-preserved : goal.loop-preserved
+loop-preserved g c =
+    let n = c.loop.invariant.count in
+    let e = length-map (listed c.loop.quantified) kept_quantified in rw (c.push.ensures.added (omega arith)) (rw (map-append kept_quantified (listed c.loop.quantified) (c.in_ok-variable.variable ∷ [])) (begun_next (read_quantified (g.G.Algebra.meaning c.args.alg.now)) c.read_quantified.new.cursor (kept_quantified c.in_ok-variable.variable) (omega arith) c.loop.invariant c.in_ok-variable.ensures))
+
+pub returns : goal.returns
+returns g c = (begun_end (read_quantified (g.G.Algebra.meaning c.args.alg.now)) (omega arith) c.loop.invariant, c.loop.invariant.same)

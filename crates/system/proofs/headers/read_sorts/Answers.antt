@@ -1,21 +1,25 @@
-use Rattle.std.proofs.Common.{◌+◌, take, set, sym, ap, ◌∙◌, add-one, arith, length-set}
+use Rattle.std.proofs.Common.{◌≡◌, ◌<◌, length, arith}
 use Rattle.definitions.specs.ReadSystem.{read_sort}
-use Rattle.system.specs.Files.{told_sorts}
-use Rattle.system.proofs.Rows.{passed}
-use Rattle.system.proofs.Fills.{fill_next, fill_stop, take_set}
+use Rattle.bits.proofs.InRow.{begun_first, begun_next, begun_stop, begun_end}
+use Rattle.rows.specs.Listed.{listed}
 use Rattle.system.proofs.headers.read_sorts.Goals as goal
 
-pub returns-in_err-x : goal.returns-in_err-x
-returns-in_err-x g c =
-    let e = c.in_err-x.field-0.0 in
-    ap (told_sorts c.args.count) (passed c.from_residual.result e c.from_residual.ensures.1) ∙
-    sym (c.loop-i.invariant.1 ∙ fill_stop c.args.bytes.now (read_sort (g.G.Algebra.meaning c.args.alg.now)) (take c.loop-i.i c.loop-i.sorts) c.args.count c.loop-i.i c.loop-i.next e.reason e.place (omega arith) c.in_err-x.ensures)
+pub loop-init : goal.loop-init
+loop-init g c = rw c.new-sorts.ensures (begun_first (read_sort (g.G.Algebra.meaning c.args.alg.now)) c.args.count c.args.cursor.now)
 
-pub loop-i-preserved : goal.loop-i-preserved
-loop-i-preserved g c =
-    let x = c.in_ok-x.x in
-    let i = c.loop-i.i in
-    let xs = c.loop-i.sorts in (
-      length-set xs i x.sort ∙ c.loop-i.invariant.0,
-      c.loop-i.invariant.1 ∙ fill_next c.args.bytes.now (read_sort (g.G.Algebra.meaning c.args.alg.now)) (take i xs) (take (i + 1) (set xs i x.sort)) c.args.count i c.loop-i.next x.next x.sort (omega arith) c.in_ok-x.ensures (rw add-one (take_set xs i x.sort (omega arith))),
-    )
+pub returns-in_err-sort : goal.returns-in_err-sort
+returns-in_err-sort g c =
+    begun_stop (read_sort (g.G.Algebra.meaning c.args.alg.now)) c.read_sort.new.cursor (λ r. listed r) c.from_residual.result c.in_err-sort.field-0.0 (omega arith) c.loop.invariant c.in_err-sort.ensures c.from_residual.ensures.1
+
+pub unwrap-requires : goal.unwrap-requires
+unwrap-requires g c =
+    let n = c.loop.invariant.count in
+    c.push.ensures.room.1 (omega arith)
+
+pub loop-preserved : goal.loop-preserved
+loop-preserved g c =
+    let n = c.loop.invariant.count in
+    rw (c.push.ensures.added (omega arith)) (begun_next (read_sort (g.G.Algebra.meaning c.args.alg.now)) c.read_sort.new.cursor c.in_ok-sort.sort (omega arith) c.loop.invariant c.in_ok-sort.ensures)
+
+pub returns : goal.returns
+returns g c = (begun_end (read_sort (g.G.Algebra.meaning c.args.alg.now)) (omega arith) c.loop.invariant, c.loop.invariant.same)
