@@ -1,16 +1,16 @@
 -- Where the terms of bodies, clauses and occurrences stand, and how an accepted file's are found.
-use Rattle.std.specs.Prelude.{◌≡◌, ℕ, zero, suc, ◌≤◌, List, [], ◌∷◌, length, take as front, Some, None, Option, slice_index}
+use Rattle.std.specs.Prelude.{◌≡◌, ℕ, zero, suc, ◌≤◌, List, [], ◌∷◌, length, Some, None, Option, slice_index}
 use Rattle.definitions.specs.Lists.{at, bind}
 use Rattle.definitions.specs.Alg.{Alg}
 use Rattle.definitions.specs.Systems.{Term, Occurrence, Clause, Equation}
 use Rattle.definitions.specs.Reading.{next, repeated}
 use Rattle.definitions.specs.ReadSystem.{Scope, Header, scope, greatest_depth, read_occurrence, read_clause, read_body}
+use Rattle.rows.specs.Listed.{listed}
 use Rattle.terms.specs.Shapes.{field_at, shape, behind, standing}
 use Rattle.system.specs.declared.places.BodyAt.{BodyAt}
 use Rattle.system.specs.declared.places.ClauseAt.{ClauseAt}
 use Rattle.system.specs.declared.places.OccurrenceAt.{OccurrenceAt}
 use Rattle.system.specs.declared.places.ArgumentsAt.{ArgumentsAt}
-use Rattle.system.specs.Bodies.{padded}
 
 -- the place behind the term at a place
 abbrev pub term_end : Alg → List ℕ → ℕ → Option ℕ
@@ -38,9 +38,9 @@ abbrev pub clause_end : Alg → List Header → List ℕ → ℕ → Option ℕ
 clause_end a hs f p = bind (counted a 3 f p) (λ n. occurrences_end a hs (suc n.0) f n.1)
 
 -- the answers
-abbrev pub arguments_of : ℕ → Option ArgumentsAt → Option (List ℕ × ℕ)
-arguments_of n None = None
-arguments_of n (Some x) = Some (front n x.places, x.next)
+abbrev pub arguments_of : Option ArgumentsAt → Option (List ℕ × ℕ)
+arguments_of None = None
+arguments_of (Some x) = Some (listed x.places, x.next)
 
 -- a body that opens at p
 abbrev pub BodyPlaces : Alg → List ℕ → ℕ → Option BodyAt → Type 0
@@ -53,7 +53,7 @@ ClausePlaces a f p (Some c) = (c.guard ≡ p) × ((n : ℕ) × ((c.count ≡ suc
 
 abbrev pub OccurrencePlaces : Alg → List Header → List ℕ → ℕ → Option OccurrenceAt → Type 0
 OccurrencePlaces a hs f p None = occurrence_places a hs f p ≡ None
-OccurrencePlaces a hs f p (Some o) = (occurrence_places a hs f p ≡ Some (o.target, (front o.count o.arguments, o.next))) × ((o.count ≡ length (front o.count o.arguments)) × (o.arguments ≡ padded (front o.count o.arguments)))
+OccurrencePlaces a hs f p (Some o) = occurrence_places a hs f p ≡ Some (o.target, (listed o.arguments, o.next))
 
 -- of an equation that is read, up to q: its h stands at the place told, and behind the opening its clauses are read
 pub record BodyOf (a : Alg) (hs : List Header) (h : Header) (f : List ℕ) (e : Equation) (q : ℕ) (b : BodyAt) : Type 0 where
@@ -70,8 +70,8 @@ pub record ClauseOf (a : Alg) (hs : List Header) (c : Scope) (f : List ℕ) (k :
 -- of an occurrence that is read, up to q
 pub record OccurrenceOf (a : Alg) (f : List ℕ) (o : Occurrence) (q : ℕ) (x : OccurrenceAt) : Type 0 where
   pub target : x.target ≡ o.target
-  pub count : x.count ≡ length o.arguments
-  pub arguments : (k : ℕ) (t : Term) → at o.arguments k ≡ Some t → standing a greatest_depth f (slice_index x.arguments k) ≡ Some t
+  pub count : length (listed x.arguments) ≡ length o.arguments
+  pub arguments : (k : ℕ) (t : Term) → at o.arguments k ≡ Some t → standing a greatest_depth f (slice_index (listed x.arguments) k) ≡ Some t
   pub end : x.next ≡ q
 
 -- whatever is read at p is found

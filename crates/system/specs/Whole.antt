@@ -1,13 +1,15 @@
 -- What the answers on whole files say.
-use Rattle.std.specs.Prelude.{◌≡◌, ℕ, List, map, length, take as front, Some, Ok, Err, Result, slice_index}
+use Rattle.std.specs.Prelude.{◌≡◌, ℕ, List, map, length, Some, Ok, Err, Result}
+use Rattle.faults.specs.declared.Stop.{Stop}
 use Rattle.faults.specs.declared.ReadFault.{ReadFault}
 use Rattle.definitions.specs.Lists.{at}
 use Rattle.definitions.specs.Alg.{Alg}
 use Rattle.definitions.specs.Systems.{Equation, System}
-use Rattle.definitions.specs.Reading.{Step, next, stop, Reader, ◌>>=◌, give, one_by_one, got, bad}
+use Rattle.definitions.specs.Reading.{next, stop, Reader, ◌>>=◌, give, one_by_one, got, bad}
 use Rattle.definitions.specs.ReadSystem.{Header, read_body, read_target, read_value_of, read_system, reading}
 use Rattle.definitions.specs.Fits.{header_of}
-use Rattle.system.specs.declared.rest.Rest.{Rest}
+use Rattle.rows.specs.Listed.{listed}
+use Rattle.system.specs.declared.outline.Equation.{Equation as Told}
 use Rattle.system.specs.declared.outline.Outline.{Outline}
 use Rattle.system.specs.Files.{kept_header}
 use Rattle.system.specs.Bodies.{padded}
@@ -20,39 +22,23 @@ read_rest a hs = do
   vs ← one_by_one (read_value_of a) t.1.sorts
   give (record { equations = es; start = t.0; values = vs })
 
--- the rest as read at p is of the system s
-pub record RestOf (a : Alg) (hs : List Header) (f : List ℕ) (p : ℕ) (s : System) (t : Rest) : Type 0 where
-  pub whole : read_rest a hs f p ≡ next s t.end
-  pub headers : map header_of s.equations ≡ hs
-  pub bodies : (i : ℕ) (e : Equation) → at s.equations i ≡ Some e → (q : ℕ) × (read_body a hs (header_of e) f (slice_index t.bodies i) ≡ next e q)
-  pub start : t.start.equation ≡ s.start
-  pub values : t.start.values ≡ padded s.values
-
-abbrev pub RestTold : Alg → List Header → List ℕ → ℕ → Result Rest ReadFault → Type 0
-RestTold a hs f p (Ok t) = (s : System) × RestOf a hs f p s t
-RestTold a hs f p (Err e) = read_rest a hs f p ≡ stop e.reason e.place
-
 abbrev pub kept_headers : Outline → List Header
-kept_headers o = map kept_header (front o.count o.headers)
+kept_headers o = map (λ e. kept_header e.header) (listed o.equations)
 
 -- the outline of a file is of the system s
 pub record Outlined (a : Alg) (f : List ℕ) (s : System) (o : Outline) : Type 0 where
   -- the file is read as s, and its content ends at the outline's end
   pub whole : read_system a f 0 ≡ next s o.end
-  pub count : o.count ≡ length s.equations
+  pub count : length (listed o.equations) ≡ length s.equations
   pub headers : kept_headers o ≡ map header_of s.equations
   -- each equation is read at the place of its body
-  pub bodies : (i : ℕ) (e : Equation) → at s.equations i ≡ Some e → (q : ℕ) × (read_body a (kept_headers o) (header_of e) f (slice_index o.bodies i) ≡ next e q)
+  pub bodies : (i : ℕ) (e : Equation) (t : Told) → at s.equations i ≡ Some e → at (listed o.equations) i ≡ Some t → (q : ℕ) × (read_body a (kept_headers o) (header_of e) f t.body ≡ next e q)
   pub start : o.start.equation ≡ s.start
   pub values : o.start.values ≡ padded s.values
 
-abbrev pub SystemTold : Alg → List ℕ → Result Outline ReadFault → Type 0
+abbrev pub SystemTold : Alg → List ℕ → Result Outline Stop → Type 0
 SystemTold a f (Ok o) = (s : System) × Outlined a f s o
 SystemTold a f (Err e) = read_system a f 0 ≡ stop e.reason e.place
-
-abbrev pub told_end : ℕ → Result (Unit {0}) ReadFault → Step (Unit {0})
-told_end p (Ok x) = next tt p
-told_end p (Err e) = stop e.reason e.place
 
 -- the file is that of a system, which the outline outlines, or it is not, for the reason and at the place told
 abbrev pub Read : Alg → List ℕ → Result Outline ReadFault → Type 0

@@ -1,17 +1,47 @@
 //! The headers of a system's equations.
-ghost use Rattle.std.specs.Prelude.{◌≤◌};
+ghost use Rattle.std.specs.Prelude.{◌≡◌};
+ghost use Rattle.definitions.specs.ReadSystem.{sign_of, quantifier_of};
+ghost use Rattle.system.specs.Files.{kept_sign, kept_quantifier};
+
+use rows::Row;
 
 /// Which truths an equation's instances take.
-#[derive(Clone, Copy, PartialEq, Eq)]
+#[derive(Clone, Copy, PartialEq, Eq, Debug)]
 pub enum Sign {
-    Least,
-    Greatest,
+    Least = 0,
+    Greatest = 1,
 }
 
-#[derive(Clone, Copy, PartialEq, Eq)]
+impl Sign {
+    /// The sign that a bit stands for.
+    pub fn from_bit(bit: u32) -> Sign
+        ensures { kept_sign result ≡ sign_of bit }
+    {
+        if bit == 0 {
+            Sign::Least
+        } else {
+            Sign::Greatest
+        }
+    }
+}
+
+#[derive(Clone, Copy, PartialEq, Eq, Debug)]
 pub enum Quantifier {
-    Exists,
-    ForAll,
+    Exists = 0,
+    ForAll = 1,
+}
+
+impl Quantifier {
+    /// The quantifier that a bit stands for.
+    pub fn from_bit(bit: u32) -> Quantifier
+        ensures { kept_quantifier result ≡ quantifier_of bit }
+    {
+        if bit == 0 {
+            Quantifier::Exists
+        } else {
+            Quantifier::ForAll
+        }
+    }
 }
 
 /// A quantified variable.
@@ -25,10 +55,20 @@ pub struct Quantified {
 #[derive(Clone, Copy)]
 pub struct Header {
     pub sign: Sign,
-    pub count: u8,
-    pub sorts: [u8; 15],
-    pub number: u8,
-    pub quantified: [Quantified; 3],
-    ghost few: { count ≤ 15 },
-    ghost three: { number ≤ 3 },
+    pub sorts: Row<u8, 15>,
+    pub quantified: Row<Quantified, 3>,
+}
+
+impl Header {
+    /// The header that lies in places that are not in use.
+    pub(crate) fn unused() -> Header {
+        Header {
+            sign: Sign::Least,
+            sorts: Row::new(0),
+            quantified: Row::new(Quantified {
+                quantifier: Quantifier::Exists,
+                sort: 0,
+            }),
+        }
+    }
 }

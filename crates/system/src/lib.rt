@@ -9,7 +9,6 @@ pub mod instance;
 mod outline;
 pub mod places;
 pub mod reading;
-mod rest;
 mod term;
 pub mod walk;
 

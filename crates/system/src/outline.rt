@@ -1,17 +1,23 @@
 //! What an accepted file says outside its bodies.
-ghost use Rattle.std.specs.Prelude.{◌<◌, ◌≤◌};
+ghost use Rattle.std.specs.Prelude.{◌<◌, length};
+ghost use Rattle.rows.specs.Listed.{listed};
 
 use crate::header::Header;
 use crate::instance::Instance;
+use rows::Row;
 
-/// What an accepted file says outside its bodies: the headers, the place of each body, the start, and the place behind it.
+/// An equation's header, and the place of its body.
+#[derive(Clone, Copy)]
+pub struct Equation {
+    pub header: Header,
+    pub body: usize,
+}
+
+/// What an accepted file says outside its bodies: its equations, the start, and the place behind it.
 #[derive(Clone, Copy)]
 pub struct Outline {
-    pub count: u8,
-    pub headers: [Header; 31],
-    pub bodies: [usize; 31],
+    pub equations: Row<Equation, 31>,
     pub start: Instance,
     pub end: usize,
-    ghost few: { count ≤ 31 },
-    ghost present: { start.equation < count },
+    ghost present: { start.equation < length (listed equations) },
 }

@@ -1,6 +1,8 @@
 //! What a walk finds: the places of terms, and counts.
 ghost use Rattle.std.specs.Prelude.{◌<◌, ◌≤◌};
 
+use rows::Row;
+
 /// A body's opening: the place of its h, its clause count, and the place of the first clause.
 #[derive(Clone, Copy)]
 pub struct BodyAt {
@@ -24,16 +26,14 @@ pub struct ClauseAt {
 #[derive(Clone, Copy)]
 pub struct OccurrenceAt {
     pub target: u8,
-    pub count: u8,
-    pub arguments: [usize; 15],
+    pub arguments: Row<usize, 15>,
     pub next: usize,
     ghost present: { target < 31 },
-    ghost few: { count ≤ 15 },
 }
 
 /// The places of an occurrence's arguments, and the place behind them.
 #[derive(Clone, Copy)]
 pub struct ArgumentsAt {
-    pub places: [usize; 15],
+    pub places: Row<usize, 15>,
     pub next: usize,
 }

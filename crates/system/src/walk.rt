@@ -1,16 +1,14 @@
 //! Walking an accepted file: bodies, clauses and occurrences, with their terms as places.
-ghost use Rattle.std.specs.Prelude.{◌≡◌, ℕ, ◌<◌, ◌≤◌, length, take as front, IfSome};
-ghost use Rattle.system.specs.Bodies.{padded};
-ghost use Rattle.system.specs.Files.{kept_header};
+ghost use Rattle.std.specs.Prelude.{◌≡◌, ℕ, ◌≤◌, length};
 ghost use Rattle.system.specs.Whole.{kept_headers};
 ghost use Rattle.system.specs.Walks.{term_places, clause_end, arguments_of, BodyPlaces, ClausePlaces, OccurrencePlaces, BodyFound, ClauseFound, OccurrenceFound, EndFound};
 
 use crate::DEPTH;
-use crate::header::Header;
 pub use crate::places::{ArgumentsAt, BodyAt, ClauseAt, OccurrenceAt};
 use crate::reading::Outline;
 use algebra::Algebra;
 use bits::BitReader;
+use rows::Row;
 use terms::view::{View, end_of_term};
 
 /// The opening of the body at the place.
@@ -43,16 +41,15 @@ pub fn open_clause<G: Algebra>(alg: &G, bytes: &[u8], at: usize) -> Option<Claus
     })
 }
 
-// The places of the arguments for an equation's parameters, from the place on.
-fn arguments_at<G: Algebra>(alg: &G, header: Header, bytes: &[u8], at: usize) -> Option<ArgumentsAt>
-    ensures places { arguments_of header.count result ≡ term_places (G.meaning alg.now) header.count bytes.now at }
-    ensures zeros { IfSome result (λ x. (header.count ≡ length (front header.count x.places)) × (x.places ≡ padded (front header.count x.places))) }
-    ensures sorts { header.count ≡ length (kept_header header).sorts }
+// The places of the arguments for parameters of the sorts, from the place on.
+fn arguments_at<G: Algebra>(alg: &G, sorts: &[u8], bytes: &[u8], at: usize) -> Option<ArgumentsAt>
+    requires { length sorts.now ≤ 15 }
+    ensures { arguments_of result ≡ term_places (G.meaning alg.now) (length sorts.now) bytes.now at }
 {
-    let mut places = [0usize; 15];
+    let mut places = Row::new(0);
     let mut next = at;
-    for k in 0..header.count {
-        places[k as usize] = next;
+    for _ in sorts {
+        places.push(next).unwrap();
         next = end_of_term(alg, View { bytes, at: next }, DEPTH)?;
     }
     Some(ArgumentsAt { places, next })
@@ -70,16 +67,11 @@ pub fn open_occurrence<G: Algebra>(
 {
     let mut reader = BitReader { bytes, at };
     let target = reader.next(5)?;
-    let headers = &outline.headers[0..outline.count as usize];
-    if target as usize >= headers.len() {
-        return None;
-    }
-    let header = headers[target as usize];
-    let found = arguments_at(alg, header, bytes, reader.at)?;
+    let equation = outline.equations.as_slice().get(target as usize)?;
+    let found = arguments_at(alg, equation.header.sorts.as_slice(), bytes, reader.at)?;
     let arguments = found.places;
     Some(OccurrenceAt {
         target: target as u8,
-        count: header.count,
         arguments,
         next: found.next,
     })
