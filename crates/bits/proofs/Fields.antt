@@ -1,6 +1,7 @@
 -- Laws of the fields of bits.
 use Rattle.std.proofs.Common.{◌≡◌, ℕ, zero, suc, ◌+◌, ◌-◌, ◌*◌, ◌/◌, ◌%◌, ◌^◌, ◌<◌, ◌≤◌, List, length, get_or, sym, refl, ap, ◌∙◌, subst, add-zero, mul_assoc, mul_comm, add-mul, suc-add, pow-suc, zero-add, zero-mul, one-add, arith, pow_mono, pow-add, shl_exact, shr-shr}
 use lib.Arith.{digits_lt}
+use Rattle.std.proofs.lemmas.Nat.{div-mul-add, mod-mul-add}
 use lib.Pow.{mod-pow-add}
 use Rattle.std.proofs.lemmas.Bool.{le-leb, lt-leb}
 use Rattle.faults.specs.declared.Reason.TheVariants.{EndsInField}
@@ -56,24 +57,44 @@ field_in f p (suc (suc k)) h =
 pub weight : (k : ℕ) → k ≤ 31 → (1 * 2 ^ k) % 2 ^ 32 ≡ 2 ^ k
 weight k h = shl_exact {a = 1} 1 k 32 (omega arith) (omega arith) ∙ (let e : 1 * 2 ^ k ≡ 2 ^ k = omega arith in e)
 
--- what a shifted field is
-pub shifted : (f : List ℕ) (p k w : ℕ) → k + w ≤ 32 → (field f p k * 2 ^ w) % 2 ^ 32 ≡ field f p k * 2 ^ w
-shifted f p k w h = shl_exact k w 32 (field_small f p k) h
-
--- a field of at most 32 bits fits them
-pub field_fits : (f : List ℕ) (p w : ℕ) → w ≤ 32 → field f p w < 2 ^ 32
-field_fits f p w h =
-    let s = field_small f p w in
-    let m : 2 ^ w ≤ 2 ^ 32 = pow_mono {i = w} {j = 32} h in
-    omega arith
-
 pub taken : (f : List ℕ) (p w v : ℕ) → p + w ≤ 8 * length f → v ≡ field f p w → next v (p + w) ≡ take w f p
 taken f p w v h e = rw (le-leb (p + w) (8 * length f) h, take) (ap (λ n. next n (p + w)) e)
 
 pub cut_short : (f : List ℕ) (p w : ℕ) → 8 * length f < p + w → stop EndsInField p ≡ take w f p
 cut_short f p w h = rw (lt-leb (p + w) (8 * length f) h, take) refl
 
--- one part more of a field
-pub field_more : (f : List ℕ) (p d k v x : ℕ) → d + k ≤ 32 → v ≡ field f p d → x ≡ field f (p + d) k → (v * 2 ^ k) % 2 ^ 32 + x ≡ field f p (d + k)
-field_more f p d k v x h ev ex =
-    ap (λ n. (n * 2 ^ k) % 2 ^ 32 + x) ev ∙ ap (λ n. n + x) (shifted f p d k h) ∙ ap (λ n. field f p d * 2 ^ k + n) ex ∙ sym (field_join f p d k)
+-- a byte is the field of its eight bits
+byte_is : (f : List ℕ) (k : ℕ) → get_or f k 0 < 256 → get_or f k 0 ≡ field f (8 * k) 8
+byte_is f k h =
+    let q : 8 * k / 8 ≡ k = omega arith in
+    let m : 8 - 8 * k % 8 - 8 ≡ 0 = omega arith in
+    let g : get_or f k 0 / 2 ^ 0 % 2 ^ 8 ≡ get_or f k 0 = omega arith in
+    sym (field_in f (8 * k) 8 (omega arith) ∙ ap (λ n. get_or f n 0 / 2 ^ (8 - 8 * k % 8 - 8) % 2 ^ 8) q ∙ ap (λ n. get_or f k 0 / 2 ^ n % 2 ^ 8) m ∙ g)
+
+-- one byte more of a field of bytes
+pub field_byte : (f : List ℕ) (a i v : ℕ) → i ≤ 4 → get_or f (a + i) 0 < 256 → v ≡ field f (8 * a) (8 * i) → v * 256 % 2 ^ 64 + get_or f (a + i) 0 ≡ field f (8 * a) (8 * (i + 1))
+field_byte f a i v h b e =
+    let s : v < 2 ^ (8 * i) = rw e (field_small f (8 * a) (8 * i)) in
+    let m : 2 ^ (8 * i) ≤ 2 ^ 32 = pow_mono {i = 8 * i} {j = 32} (omega arith) in
+    let w : v * 256 % 2 ^ 64 ≡ v * 2 ^ 8 = omega arith in
+    let p : 8 * (a + i) ≡ 8 * a + 8 * i = omega arith in
+    let n : 8 * i + 8 ≡ 8 * (i + 1) = omega arith in
+    ap (λ x. x + get_or f (a + i) 0) w ∙ ap (λ x. v * 2 ^ 8 + x) (byte_is f (a + i) b ∙ ap (λ q. field f q 8) p) ∙
+    ap (λ x. x * 2 ^ 8 + field f (8 * a + 8 * i) 8) e ∙ sym (field_join f (8 * a) (8 * i) 8) ∙ ap (λ q. field f (8 * a) q) n
+
+-- a field cut out of one that begins before it and ends behind it
+pub field_cut : (f : List ℕ) (p d w t : ℕ) → field f p (d + w + t) / 2 ^ t % 2 ^ w ≡ field f (p + d) w
+field_cut f p d w t =
+    ap (λ n. n / 2 ^ t % 2 ^ w) (field_join f p (d + w) t) ∙
+    ap (λ n. n % 2 ^ w) (div-mul-add (field f p (d + w)) (2 ^ t) (field f (p + (d + w)) t) (field_small f (p + (d + w)) t)) ∙
+    ap (λ n. n % 2 ^ w) (field_join f p d w) ∙ mod-mul-add (field f p d) (2 ^ w) (field f (p + d) w) (field_small f (p + d) w)
+
+-- a field cut out of the bytes that it touches
+pub field_of_bytes : (f : List ℕ) (p w n v : ℕ) → w ≤ 32 → n ≡ (p + w + 7) / 8 - p / 8 → v ≡ field f (8 * (p / 8)) (8 * n) → v / 2 ^ (8 * ((p + w + 7) / 8) - (p + w)) % (1 * 2 ^ w % 2 ^ 64) ≡ field f p w
+field_of_bytes f p w n v h e i =
+    let t = 8 * ((p + w + 7) / 8) - (p + w) in
+    let d = p % 8 in
+    let z : 8 * n ≡ d + w + t = omega arith in
+    let q : 8 * (p / 8) + d ≡ p = omega arith in
+    let s : 1 * 2 ^ w % 2 ^ 64 ≡ 2 ^ w = shl_exact {a = 1} 1 w 64 (omega arith) (omega arith) ∙ (let e : 1 * 2 ^ w ≡ 2 ^ w = omega arith in e) in
+    ap (λ m. v / 2 ^ t % m) s ∙ ap (λ x. x / 2 ^ t % 2 ^ w) (i ∙ ap (λ m. field f (8 * (p / 8)) m) z) ∙ field_cut f (8 * (p / 8)) d w t ∙ ap (λ x. field f x w) q

@@ -1,5 +1,5 @@
 -- Readings in a row, one more at a time.
-use Rattle.std.proofs.Common.{◌≡◌, ℕ, zero, suc, ◌+◌, ◌-◌, ◌<◌, ◌≤◌, List, [], ◌∷◌, ◌++◌, length, IsErrAnd, Ok, Err, Result, sym, refl, ap, ◌∙◌, arith, length-append}
+use Rattle.std.proofs.Common.{◌≡◌, ℕ, zero, suc, ◌+◌, ◌-◌, ◌<◌, List, [], ◌∷◌, ◌++◌, IsErrAnd, Ok, Err, Result, sym, refl, ap, ◌∙◌, arith, length-append}
 use Rattle.faults.specs.declared.Stop.{Stop}
 use Rattle.definitions.specs.Reading.{Step, next, stop, Reader, follow, repeated}
 use Rattle.bits.specs.declared.file.Cursor.{Cursor}

@@ -1,9 +1,9 @@
 -- What the answers of readers say as steps.
-use Rattle.std.specs.Prelude.{◌≡◌, ℕ, true, false, List, Ok, Err, Option, Result, nat_le}
+use Rattle.std.specs.Prelude.{◌≡◌, ℕ, true, false, Ok, Err, Option, Result, nat_le}
 use Rattle.faults.specs.declared.Reason.{Reason}
 use Rattle.faults.specs.declared.Reason.TheVariants.{EndsInField}
 use Rattle.faults.specs.declared.Stop.{Stop}
-use Rattle.definitions.specs.Reading.{Step, next, stop, Reader, take, take_for, fail}
+use Rattle.definitions.specs.Reading.{Step, next, stop, Reader, take, take_for}
 use Rattle.bits.specs.declared.file.Cursor.{Cursor}
 
 -- what was read, with q behind it, or the reason and place at which reading stopped

@@ -12,7 +12,7 @@ pub fn deliver(out: &mut [u8], part: &[u8]) -> Result<usize, Full>
 {
     let count = part.len();
     if count > out.len() {
-        return Err(Full {});
+        return Err(Full);
     }
     out[0..count].copy_from_slice(part);
     Ok(count)

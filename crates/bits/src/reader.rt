@@ -4,35 +4,21 @@ ghost use Rattle.definitions.specs.Bits.{field as bit_field};
 ghost use Rattle.definitions.specs.Reading.{take};
 ghost use Rattle.bits.specs.Took.{took};
 
-/// The bits from `at` on that lie in the same byte, `count` of them, as a number.
-fn part(bytes: &[u8], at: usize, count: u32) -> u32
-    requires inside { at < 8 * length bytes.now }
-    requires one_byte { at % 8 + count ≤ 8 }
-    ensures { result ≡ bit_field bytes.now at count }
-{
-    (bytes[at / 8] as u32 >> (8 - (at % 8) as u32 - count)) % (1 << count)
-}
-
+// The field of `width` bits from `at` on, cut out of the bytes that it touches.
 fn number(bytes: &[u8], at: usize, width: u32) -> u32
     requires few { length bytes.now ≤ 65536 }
     requires narrow { width ≤ 32 }
     requires within { at + width ≤ 8 * length bytes.now }
     ensures { result ≡ bit_field bytes.now at width }
 {
-    let mut value = 0u32;
-    let mut done = 0u32;
-    while done < width {
-        let place = at + done as usize;
-        let free = 8 - (place % 8) as u32;
-        let count = if width - done < free {
-            width - done
-        } else {
-            free
-        };
-        value = (value << count) + part(bytes, place, count);
-        done += count;
+    let end = at + width as usize;
+    let last = (end + 7) / 8;
+    let mut all = 0u64;
+    for byte in &bytes[at / 8..last] {
+        all = (all << 8) + *byte as u64;
     }
-    value
+    let behind = 8 * last - end;
+    ((all >> behind) % (1 << width)) as u32
 }
 
 /// Fields of a file, from a place on.

@@ -4,8 +4,8 @@ ghost use Rattle.definitions.specs.Bits.{bits as bits_of};
 ghost use Rattle.bits.specs.Put.{overwritten, room as has_room, closed as padded_out};
 
 /// A field does not fit: the slice ends before it does, or the value is too large for the width.
-#[derive(Clone, Copy)]
-pub struct Full {}
+#[derive(Clone, Copy, PartialEq, Eq, Debug)]
+pub struct Full;
 
 /// Puts a value into the `count` bits from `at` on, which lie in the same byte.
 fn put_part(bytes: &mut [u8], at: usize, value: u32, count: u32)
@@ -27,18 +27,13 @@ fn put_number(bytes: &mut [u8], at: usize, value: u32, width: u32)
     requires within { at + width ≤ 8 * length bytes.old }
     ensures { bytes.new ≡ overwritten bytes.old at (bits_of width value) }
 {
-    let mut done = 0u32;
-    while done < width {
-        let place = at + done as usize;
-        let free = 8 - (place % 8) as u32;
-        let count = if width - done < free {
-            width - done
-        } else {
-            free
-        };
-        let part = (value >> (width - done - count)) % (1 << count);
-        put_part(bytes, place, part, count);
-        done += count;
+    let end = at + width as usize;
+    for i in at / 8..(end + 7) / 8 {
+        let from = at.max(8 * i);
+        let to = end.min(8 * i + 8);
+        let count = (to - from) as u32;
+        let part = (value >> (end - to) as u32) % (1 << count);
+        put_part(bytes, from, part, count);
     }
 }
 
@@ -58,14 +53,14 @@ impl<'a> BitWriter<'a> {
         ensures named { self.new.bytes.ghost_name ≡ self.old.bytes.ghost_name }
     {
         if self.bytes.len() > 65536 || width > 32 {
-            return Err(Full {});
+            return Err(Full);
         }
         if width < 32 && value >= 1 << width {
-            return Err(Full {});
+            return Err(Full);
         }
         let total = 8 * self.bytes.len();
         if self.at > total || width as usize > total - self.at {
-            return Err(Full {});
+            return Err(Full);
         }
         let at = self.at;
         put_number(self.bytes, at, value, width);

@@ -1,21 +1,28 @@
-use Rattle.std.proofs.Common.{ℕ, ◌+◌, ◌^◌, ◌<◌, ◌≤◌, sym, subst, arith}
-use Rattle.bits.proofs.Fields.{field_more, field_fits}
+use Rattle.std.proofs.Common.{◌≡◌, ℕ, ◌+◌, ◌-◌, ◌*◌, ◌/◌, ◌%◌, ◌<◌, ◌≤◌, List, length, get_or, drop, take, ap, ◌∙◌, arith, rules, length-take-le, length-drop}
+use Rattle.std.proofs.lemmas.List.{get_or-take, get_or-drop}
+use Rattle.definitions.specs.Bits.{field}
+use Rattle.bits.proofs.Fields.{field_byte, field_of_bytes}
 use Rattle.bits.proofs.reader.number.Goals as goal
-use Rattle.bits.proofs.reader.number.Goals.{then-width-done, else-width-done}
 
-pub overflow_add-value : goal.overflow_add-value
-overflow_add-value c =
-    let k = c.if-width-done.count in
-    let d = c.loop-done.done in
-    let f = c.args.bytes.now in
-    let h : d + k ≤ c.args.width = elim c.if-width-done.branch [ then-width-done w ↦ omega (arith, w.count-is) | else-width-done w ↦ omega (arith, w.count-is) ] in
-    let m = field_more f c.args.at d k c.loop-done.value c.part.result (omega arith) c.loop-done.invariant.1 c.part.ensures in
-    record { fits = subst (λ (n : ℕ). n < 2 ^ 32) (sym m) (field_fits f c.args.at (d + k) (omega arith)) }
+-- the bytes that a field touches are there
+part_long : (f : List ℕ) (a b : ℕ) → b ≤ length f → length (take (b - a) (drop a f)) ≡ b - a
+part_long f a b h = length-take-le (b - a) (drop a f) (let l : length (drop a f) ≡ length f - a = length-drop a f in omega arith)
 
-pub loop-done-preserved : goal.loop-done-preserved
-loop-done-preserved c =
-    let k = c.if-width-done.count in
-    let d = c.loop-done.done in
+pub loop-byte-preserved : goal.loop-byte-preserved
+loop-byte-preserved c =
     let f = c.args.bytes.now in
-    let h : d + k ≤ c.args.width = elim c.if-width-done.branch [ then-width-done w ↦ omega (arith, w.count-is) | else-width-done w ↦ omega (arith, w.count-is) ] in
-    (h, field_more f c.args.at d k c.loop-done.value c.part.result (omega arith) c.loop-done.invariant.1 c.part.ensures)
+    let a = c.args.at / 8 in
+    let b = (c.args.at + c.args.width + 7) / 8 in
+    let i = c.loop-byte.byte-index in
+    let l = part_long f a b (omega arith) in
+    let x : get_or (take (b - a) (drop a f)) i 0 ≡ get_or f (a + i) 0 = get_or-take (b - a) (drop a f) i 0 (omega arith) ∙ get_or-drop a f i 0 in
+    let s : get_or f (a + i) 0 < 256 = search rules in
+    ap (λ n. c.loop-byte.all * 256 % 18446744073709551616 + n) x ∙ field_byte f a i c.loop-byte.all (omega arith) s c.loop-byte.invariant
+
+pub returns : goal.returns
+returns c =
+    let f = c.args.bytes.now in
+    let a = c.args.at / 8 in
+    let b = (c.args.at + c.args.width + 7) / 8 in
+    let l = part_long f a b (omega arith) in
+    field_of_bytes f c.args.at c.args.width (b - a) c.loop-byte.all c.requires.narrow (omega arith) (c.loop-byte.invariant ∙ ap (λ n. field f (8 * a) (8 * n)) (omega (arith, l)))
