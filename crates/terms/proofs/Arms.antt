@@ -1,4 +1,4 @@
--- What a term as read stands for, arm by arm.
+-- What a term as read stands for.
 use Rattle.std.proofs.Common.{◌≡◌, ℕ, zero, suc, ◌-◌, ◌≤◌, Bool, true, false, ltb, List, Some, None, Option, sym, refl, ap, ◌∙◌, sub-one, arith}
 use Rattle.std.proofs.lemmas.Bool.{ltb-true, ltb-false}
 use Rattle.std.specs.Option.{option_map}
@@ -11,31 +11,9 @@ use Rattle.terms.specs.declared.view.Opening.{Opening}
 use Rattle.terms.specs.Shapes.{Shape, opening, row, shape, what, behind, standing}
 use Rattle.terms.specs.Shown.{kind_of, opening_of, shown, cons}
 
-what_more : (t : Term) (o : Option (Terms × ℕ)) → what (bind o (λ xs. Some (more t xs.0, xs.1))) ≡ bind (what o) (λ xs. Some (more t xs))
-what_more t None = refl
-what_more t (Some xs) = refl
-
 what_node : (k : Kind) (o : Option (Terms × ℕ)) → what (bind o (λ xs. Some (node k xs.0, xs.1))) ≡ option_map (node k) (what o)
 what_node k None = refl
 what_node k (Some xs) = refl
-
-one_at : (o : Option (Term × ℕ)) → what (bind o (λ x. Some (more x.0 none, x.1))) ≡ cons (what o) (Some none)
-one_at None = refl
-one_at (Some x) = refl
-
-pub row_one : (r : Shape Term) (f : List ℕ) (p : ℕ) → cons (what (r f p)) (Some none) ≡ what (row r 1 f p)
-row_one r f p = sym (one_at (r f p))
-
-two_at : (r : Shape Term) (f : List ℕ) (q : ℕ) (o : Option (Term × ℕ)) → behind o ≡ Some q →
-    cons (what o) (cons (what (r f q)) (Some none)) ≡ what (bind o (λ x. bind (row r 1 f x.1) (λ xs. Some (more x.0 xs.0, xs.1))))
-two_at r f q None e = refl
-two_at r f q (Some x) e =
-    let i : q ≡ x.1 = cc in
-    ap (λ m. cons (Some x.0) (cons (what (r f m)) (Some none))) i ∙ ap (λ o. bind o (λ xs. Some (more x.0 xs))) (row_one r f x.1) ∙ sym (what_more x.0 (row r 1 f x.1))
-
-pub row_two : (a : Alg) (f : List ℕ) (d p : ℕ) (y : View) → y.bytes.now ≡ f → behind (shape a d f p) ≡ Some y.at →
-    cons (standing a d f p) (cons (shown a d y) (Some none)) ≡ what (row (shape a d) 2 f p)
-row_two a f d p y same e = ap (λ s. cons (standing a d f p) (cons (standing a d s y.at) (Some none))) same ∙ two_at (shape a d) f y.at (shape a d f p) e
 
 module _ (a : Alg) (f : List ℕ) where
   what_shape : (d : ℕ) (o : Option ((Kind × ℕ) × ℕ)) → what (bind o (λ h. bind (row (shape a d) h.0.1 f h.1) (λ xs. Some (node h.0.0 xs.0, xs.1)))) ≡ bind o (λ h. option_map (node h.0.0) (what (row (shape a d) h.0.1 f h.1)))
@@ -46,15 +24,12 @@ module _ (a : Alg) (f : List ℕ) where
   shape_what zero p ne = absurd (ne refl)
   shape_what (suc d) p ne = rw sub-one (what_shape d (opening a f p))
 
-  pub no_opening : (d p : ℕ) → (d ≡ 0 → ⊥) → None ≡ opening a f p → None ≡ standing a d f p
-  no_opening d p ne e = sym (shape_what d p ne ∙ ap (λ o. bind o (λ h. option_map (node h.0.0) (what (row (shape a (d - 1)) h.0.1 f h.1)))) (sym e))
-
   -- a term whose kind is known, with its parts
-  pub arm : (d p : ℕ) → (d ≡ 0 → ⊥) → (o : Opening) → opening_of (Some o) ≡ opening a f p → (k : ReadKind) → o.kind ≡ k → (n : ℕ) → o.parts ≡ n →
-      (ts : Option Terms) → ts ≡ what (row (shape a (d - 1)) n f o.next) → option_map (node (kind_of k)) ts ≡ standing a d f p
-  arm d p ne o e k ek n en ts et =
+  pub arm : (d p : ℕ) → (d ≡ 0 → ⊥) → (o : Opening) → opening_of (Some o) ≡ opening a f p → (k : ReadKind) → o.kind ≡ k →
+      (ts : Option Terms) → ts ≡ what (row (shape a (d - 1)) o.parts f o.next) → option_map (node (kind_of k)) ts ≡ standing a d f p
+  arm d p ne o e k ek ts et =
       let whole : standing a d f p ≡ option_map (node (kind_of o.kind)) (what (row (shape a (d - 1)) o.parts f o.next)) = shape_what d p ne ∙ ap (λ z. bind z (λ h. option_map (node h.0.0) (what (row (shape a (d - 1)) h.0.1 f h.1)))) (sym e) in
-      sym (whole ∙ ap (λ j. option_map (node (kind_of j)) (what (row (shape a (d - 1)) o.parts f o.next))) ek ∙ ap (λ m. option_map (node (kind_of k)) (what (row (shape a (d - 1)) m f o.next))) en ∙ ap (option_map (node (kind_of k))) (sym et))
+      sym (whole ∙ ap (λ j. option_map (node (kind_of j)) (what (row (shape a (d - 1)) o.parts f o.next))) ek ∙ ap (option_map (node (kind_of k))) (sym et))
 
 pub few_parts : (a : Alg) → Lawful a → (o n : ℕ) → a.arity o ≡ Some n → n ≤ 3
 few_parts a l o n e = go (ltb o a.ops) refl

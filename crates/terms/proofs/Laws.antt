@@ -7,7 +7,7 @@ use Rattle.definitions.specs.Alg.{Alg}
 use Rattle.definitions.specs.Systems.{Kind, parameter, variable, value, operation, not, and, or, equal, Term, Terms, node, none, more, terms}
 use Rattle.definitions.specs.Reading.{Step, next, stop, Reader, follow, take, must, given, below, one_by_one, repeated}
 use Rattle.definitions.specs.ReadSystem.{Scope, Sorted, of, suits, read_truths, read_equal, read_kind, read_term}
-use Rattle.terms.specs.Shapes.{Shape, came, field_at, shape_kind, row, shape}
+use Rattle.terms.specs.Shapes.{Shape, came, field_at, shape_kind, row, shape, ReadStands}
 use Rattle.terms.proofs.Fields.{field_next}
 
 -- what was followed
@@ -166,3 +166,6 @@ term_stands a c f short (suc n) need p x q e =
     let d = followed (take 3 f p) (λ k u. read_kind a c (read_term a c n) p need k f u) x q e in
     ap (λ (o : Option (ℕ × ℕ)). Whole a c f short (shape a n) (read_term a c n) (term_stands a c f short n) p need p x q (bind o (λ k. shape_kind a k.0 f k.1))) (field_is f short 3 p d.0 d.1.0 d.1.1.0) ∙
     kind_stands a c f short (shape a n) (read_term a c n) (term_stands a c f short n) p need d.1.0 x q d.0 d.1.1.1
+
+pub read_stands : (a : Alg) (d : ℕ) (f : List ℕ) (p : ℕ) → ReadStands a d f p
+read_stands a d f p = λ c need x q short e. term_stands a c f short d need p x q e

@@ -3,3 +3,4 @@ pub mod Rows
 pub mod Arms
 pub mod Laws
 pub mod Folds
+pub mod Wholes

@@ -47,8 +47,5 @@ module _ (a : Alg) (f : List ℕ) where
   shape_behind zero p ne = absurd (ne refl)
   shape_behind (suc d) p ne = rw sub-one (behind_shape d (opening a f p))
 
-  pub skip_none : (d p : ℕ) → (d ≡ 0 → ⊥) → None ≡ opening a f p → None ≡ behind (shape a d f p)
-  skip_none d p ne e = sym (shape_behind d p ne ∙ ap (λ o. bind o (λ h. behind (row (shape a (d - 1)) h.0.1 f h.1))) (sym e))
-
   pub skip_some : (d p : ℕ) (k : Kind) (n q : ℕ) → (d ≡ 0 → ⊥) → Some ((k, n), q) ≡ opening a f p → behind (shape a d f p) ≡ behind (row (shape a (d - 1)) n f q)
   skip_some d p k n q ne e = shape_behind d p ne ∙ ap (λ o. bind o (λ h. behind (row (shape a (d - 1)) h.0.1 f h.1))) (sym e)

@@ -4,7 +4,6 @@ use Rattle.std.specs.Option.{option_map}
 use Rattle.definitions.specs.Lists.{bind}
 use Rattle.definitions.specs.Alg.{Alg}
 use Rattle.definitions.specs.Systems.{Kind, parameter, variable, value, operation, not, and, or, equal, Term, Terms, node, none, more}
-use Rattle.terms.specs.declared.view.Field.{Field}
 use Rattle.terms.specs.declared.view.View.{View}
 use Rattle.terms.specs.declared.view.Kind.{Kind as ReadKind}
 use Rattle.terms.specs.declared.view.Kind.TheVariants as kind
@@ -15,10 +14,6 @@ use Rattle.terms.specs.declared.view.Term.{Term as Read}
 use Rattle.terms.specs.declared.view.Term.TheVariants.{Parameter, Variable, Value, Operation, Not, And, Or, Equal}
 use Rattle.terms.specs.Shapes.{standing}
 
-abbrev pub field_of : Option Field → Option (ℕ × ℕ)
-field_of None = None
-field_of (Some x) = Some (x.value, x.next)
-
 abbrev pub kind_of : ReadKind → Kind
 kind_of (kind.Parameter n) = parameter n
 kind_of (kind.Variable n) = variable n
@@ -28,6 +23,14 @@ kind_of kind.Not = not
 kind_of kind.And = and
 kind_of kind.Or = or
 kind_of kind.Equal = equal
+
+-- what was read, with q behind it
+abbrev pub reached : {A B : Type 0} → (A → B) → Option A → ℕ → Option (B × ℕ)
+reached what None q = None
+reached what (Some x) q = Some (what x, q)
+
+abbrev pub kind_and_count : ReadKind × ℕ → Kind × ℕ
+kind_and_count o = (kind_of o.0, o.1)
 
 abbrev pub opening_of : Option Opening → Option ((Kind × ℕ) × ℕ)
 opening_of None = None

@@ -11,12 +11,6 @@ ghost use Rattle.terms.specs.Known.{occurs_at};
 use crate::view::{Parts, Term, View, end_of_term, read_term};
 use algebra::Algebra;
 
-fn either(x: bool, y: bool) -> bool
-    ensures { result ≡ any (λ b. b) (x ∷ y ∷ []) }
-{
-    x || y
-}
-
 // Whether the parameter numbered `k` occurs in the term at the view, where one stands there.
 fn occurs_at<G: Algebra>(alg: &G, view: View, k: u8, depth: u8) -> bool
     ensures { (t : Tree) → standing (G.meaning alg.now) depth view.entry.bytes.now view.entry.at ≡ Some t → result ≡ occurs_in k t }
@@ -27,40 +21,34 @@ fn occurs_at<G: Algebra>(alg: &G, view: View, k: u8, depth: u8) -> bool
     let Some(term) = read_term(alg, view, depth) else {
         return false;
     };
+    let depth = depth - 1;
     match term {
         Term::Parameter(n) => n == k,
-        Term::Variable(_) => false,
-        Term::Value { sort: _, value: _ } => false,
-        Term::Operation { op: _, arguments } => match arguments {
-            Parts::Zero => false,
-            Parts::One(a) => occurs_at(alg, a, k, depth - 1),
-            Parts::Two(a, b) => {
-                let x = occurs_at(alg, a, k, depth - 1);
-                let y = occurs_at(alg, b, k, depth - 1);
-                either(x, y)
-            }
-            Parts::Three(a, b, c) => {
-                let x = occurs_at(alg, a, k, depth - 1);
-                let y = occurs_at(alg, b, k, depth - 1);
-                let z = occurs_at(alg, c, k, depth - 1);
-                either(x, either(y, z))
-            }
-        },
-        Term::Not(a) => occurs_at(alg, a, k, depth - 1),
-        Term::And(a, b) => {
-            let x = occurs_at(alg, a, k, depth - 1);
-            let y = occurs_at(alg, b, k, depth - 1);
-            either(x, y)
-        }
-        Term::Or(a, b) => {
-            let x = occurs_at(alg, a, k, depth - 1);
-            let y = occurs_at(alg, b, k, depth - 1);
-            either(x, y)
-        }
-        Term::Equal(a, b) => {
-            let x = occurs_at(alg, a, k, depth - 1);
-            let y = occurs_at(alg, b, k, depth - 1);
-            either(x, y)
+        Term::Variable(_)
+        | Term::Value { .. }
+        | Term::Operation {
+            arguments: Parts::Zero,
+            ..
+        } => false,
+        Term::Not(a)
+        | Term::Operation {
+            arguments: Parts::One(a),
+            ..
+        } => occurs_at(alg, a, k, depth),
+        Term::And(a, b)
+        | Term::Or(a, b)
+        | Term::Equal(a, b)
+        | Term::Operation {
+            arguments: Parts::Two(a, b),
+            ..
+        } => occurs_at(alg, a, k, depth) || occurs_at(alg, b, k, depth),
+        Term::Operation {
+            arguments: Parts::Three(a, b, c),
+            ..
+        } => {
+            occurs_at(alg, a, k, depth)
+                || occurs_at(alg, b, k, depth)
+                || occurs_at(alg, c, k, depth)
         }
     }
 }

@@ -1,19 +1,20 @@
 //! The known value of a term, where some parameters and quantified variables are known. With all of them known it is the value.
-ghost use Rattle.std.specs.Prelude.{◌≡◌, ℕ, ◌≤◌, List, [], ◌∷◌, length, replicate, Some, None, Option, slice_index_or};
-ghost use Rattle.definitions.specs.Lists.{bind};
-ghost use Rattle.definitions.specs.Alg.{Alg};
-ghost use Rattle.definitions.specs.Systems.{Term as Tree, fold, not, and, or, equal, operation};
+ghost use Rattle.std.specs.Prelude.{◌≡◌, ℕ, ◌-◌, ◌≤◌, List, [], ◌∷◌, length, replicate, Some, None, Option, ◌==◌};
+ghost use Rattle.definitions.specs.Lists.{bind, whole};
+ghost use Rattle.definitions.specs.Systems.{Term as Tree, fold};
 ghost use Rattle.definitions.specs.Reading.{next};
 ghost use Rattle.definitions.specs.ReadSystem.{Scope, Sorted, read_term};
-ghost use Rattle.definitions.specs.Values.{kind_known};
+ghost use Rattle.definitions.specs.Algebras.{truth, first, second};
+ghost use Rattle.definitions.specs.Values.{both as both_known, either as either_known, kind_known};
 ghost use Rattle.terms.specs.Shapes.{standing};
 ghost use Rattle.terms.specs.Known.{Alike};
 
 use crate::view::{Parts, Term, View, end_of_term, read_term};
 use algebra::Algebra;
+use rows::Row;
 
 /// What is known of the parameters and the quantified variables.
-#[derive(Clone, Copy)]
+#[derive(Clone, Copy, PartialEq, Eq, Debug)]
 pub struct Environment {
     pub parameters: [Option<u8>; 15],
     pub variables: [Option<u8>; 3],
@@ -32,23 +33,12 @@ impl Environment {
     }
 }
 
-fn entry(known: &[Option<u8>], n: u8) -> Option<u8>
-    ensures { result ≡ slice_index_or known.now n None }
-{
-    if (n as usize) < known.len() {
-        known[n as usize]
-    } else {
-        None
-    }
-}
-
 // One known false side decides; else both must be known true.
 fn both(x: Option<u8>, y: Option<u8>) -> Option<u8>
-    ensures { (a : Alg) (ps vs : List (Option ℕ)) → result ≡ kind_known a ps vs and (x ∷ y ∷ []) }
+    ensures { result ≡ both_known x y }
 {
     match (x, y) {
-        (Some(0), _) => Some(0),
-        (_, Some(0)) => Some(0),
+        (Some(0), _) | (_, Some(0)) => Some(0),
         (Some(1), Some(1)) => Some(1),
         _ => None,
     }
@@ -56,59 +46,36 @@ fn both(x: Option<u8>, y: Option<u8>) -> Option<u8>
 
 // True if a part is known true, false if both are known false.
 fn either(x: Option<u8>, y: Option<u8>) -> Option<u8>
-    ensures { (a : Alg) (ps vs : List (Option ℕ)) → result ≡ kind_known a ps vs or (x ∷ y ∷ []) }
+    ensures { result ≡ either_known x y }
 {
     match (x, y) {
-        (Some(1), _) => Some(1),
-        (_, Some(1)) => Some(1),
+        (Some(1), _) | (_, Some(1)) => Some(1),
         (Some(0), Some(0)) => Some(0),
         _ => None,
     }
 }
 
 fn opposite(x: Option<u8>) -> Option<u8>
-    ensures { (a : Alg) (ps vs : List (Option ℕ)) → result ≡ kind_known a ps vs not (x ∷ []) }
+    ensures { result ≡ bind (whole (x ∷ [])) (λ ns. Some (1 - first ns)) }
 {
-    let x = x?;
-    Some(if x == 0 { 1 } else { 0 })
+    Some((x? == 0) as u8)
 }
 
 fn alike(x: Option<u8>, y: Option<u8>) -> Option<u8>
-    ensures { (a : Alg) (ps vs : List (Option ℕ)) → result ≡ kind_known a ps vs equal (x ∷ y ∷ []) }
+    ensures { result ≡ bind (whole (x ∷ y ∷ [])) (λ ns. Some (truth (first ns == second ns))) }
 {
-    let x = x?;
-    let y = y?;
-    Some(if x == y { 1 } else { 0 })
+    Some((x? == y?) as u8)
 }
 
-fn apply_one<G: Algebra>(alg: &G, op: u8, x: Option<u8>) -> Option<u8>
-    ensures { (ps vs : List (Option ℕ)) → result ≡ kind_known (G.meaning alg.now) ps vs (operation op) (x ∷ []) }
+// The value of an operation, where all its arguments are known.
+fn apply<G: Algebra, const N: usize>(alg: &G, op: u8, args: [Option<u8>; N]) -> Option<u8>
+    ensures { result ≡ bind (whole args.entry) ((G.meaning alg.now).value op) }
 {
-    let x = x?;
-    alg.value(op, &[x])
-}
-
-fn apply_two<G: Algebra>(alg: &G, op: u8, x: Option<u8>, y: Option<u8>) -> Option<u8>
-    ensures { (ps vs : List (Option ℕ)) → result ≡ kind_known (G.meaning alg.now) ps vs (operation op) (x ∷ y ∷ []) }
-{
-    let x = x?;
-    let y = y?;
-    alg.value(op, &[x, y])
-}
-
-fn apply_three<G: Algebra>(
-    alg: &G,
-    op: u8,
-    x: Option<u8>,
-    y: Option<u8>,
-    z: Option<u8>,
-) -> Option<u8>
-    ensures { (ps vs : List (Option ℕ)) → result ≡ kind_known (G.meaning alg.now) ps vs (operation op) (x ∷ y ∷ z ∷ []) }
-{
-    let x = x?;
-    let y = y?;
-    let z = z?;
-    alg.value(op, &[x, y, z])
+    let mut values: Row<u8, N> = Row::new(0);
+    for arg in args {
+        values.push(arg?).unwrap();
+    }
+    alg.value(op, values.as_slice())
 }
 
 // The known value of the term at the view, where one stands there.
@@ -118,44 +85,31 @@ fn known_at<G: Algebra>(alg: &G, env: &Environment, view: View, depth: u8) -> Op
     if depth == 0 {
         return None;
     }
-    match read_term(alg, view, depth)? {
-        Term::Parameter(n) => entry(&env.parameters, n),
-        Term::Variable(n) => entry(&env.variables, n),
-        Term::Value { sort: _, value } => Some(value),
+    let term = read_term(alg, view, depth)?;
+    let depth = depth - 1;
+    match term {
+        Term::Parameter(n) => *env.parameters.get(n as usize)?,
+        Term::Variable(n) => *env.variables.get(n as usize)?,
+        Term::Value { value, .. } => Some(value),
         Term::Operation { op, arguments } => match arguments {
-            Parts::Zero => alg.value(op, &[]),
-            Parts::One(a) => {
-                let x = known_at(alg, env, a, depth - 1);
-                apply_one(alg, op, x)
-            }
+            Parts::Zero => apply(alg, op, []),
+            Parts::One(a) => apply(alg, op, [known_at(alg, env, a, depth)]),
             Parts::Two(a, b) => {
-                let x = known_at(alg, env, a, depth - 1);
-                let y = known_at(alg, env, b, depth - 1);
-                apply_two(alg, op, x, y)
+                let x = known_at(alg, env, a, depth);
+                let y = known_at(alg, env, b, depth);
+                apply(alg, op, [x, y])
             }
             Parts::Three(a, b, c) => {
-                let x = known_at(alg, env, a, depth - 1);
-                let y = known_at(alg, env, b, depth - 1);
-                let z = known_at(alg, env, c, depth - 1);
-                apply_three(alg, op, x, y, z)
+                let x = known_at(alg, env, a, depth);
+                let y = known_at(alg, env, b, depth);
+                let z = known_at(alg, env, c, depth);
+                apply(alg, op, [x, y, z])
             }
         },
-        Term::Not(a) => opposite(known_at(alg, env, a, depth - 1)),
-        Term::And(a, b) => {
-            let x = known_at(alg, env, a, depth - 1);
-            let y = known_at(alg, env, b, depth - 1);
-            both(x, y)
-        }
-        Term::Or(a, b) => {
-            let x = known_at(alg, env, a, depth - 1);
-            let y = known_at(alg, env, b, depth - 1);
-            either(x, y)
-        }
-        Term::Equal(a, b) => {
-            let x = known_at(alg, env, a, depth - 1);
-            let y = known_at(alg, env, b, depth - 1);
-            alike(x, y)
-        }
+        Term::Not(a) => opposite(known_at(alg, env, a, depth)),
+        Term::And(a, b) => both(known_at(alg, env, a, depth), known_at(alg, env, b, depth)),
+        Term::Or(a, b) => either(known_at(alg, env, a, depth), known_at(alg, env, b, depth)),
+        Term::Equal(a, b) => alike(known_at(alg, env, a, depth), known_at(alg, env, b, depth)),
     }
 }
 

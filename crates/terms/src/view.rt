@@ -1,21 +1,21 @@
 //! Terms in a file, read where they stand: nothing is copied out, and the parts of a term are further places.
-ghost use Rattle.std.specs.Prelude.{◌≡◌, ◌-◌, ◌^◌, ◌<◌, ◌≤◌, IfSome, Some, None, MatchOption};
+ghost use Rattle.std.specs.Prelude.{◌≡◌, ◌-◌, ◌≤◌, IfSome, Some, None, MatchOption};
 ghost use Rattle.definitions.specs.Lists.{bind};
 ghost use Rattle.terms.specs.Shapes.{field_at, opening, row, shape, what, behind, standing, ReadStands};
-ghost use Rattle.terms.specs.Shown.{field_of, opening_of, Apt, parts_of, term_of, PartsIn, In};
+ghost use Rattle.terms.specs.Shown.{reached, kind_and_count, opening_of, Apt, parts_of, term_of, PartsIn, In};
 
 use algebra::Algebra;
 use bits::BitReader;
 
 /// A bit place in a file.
-#[derive(Clone, Copy)]
+#[derive(Clone, Copy, PartialEq, Eq, Debug)]
 pub struct View<'a> {
     pub bytes: &'a [u8],
     pub at: usize,
 }
 
 /// The kind of a term.
-#[derive(Clone, Copy)]
+#[derive(Clone, Copy, PartialEq, Eq, Debug)]
 pub enum Kind {
     Parameter(u8),
     Variable(u8),
@@ -28,7 +28,7 @@ pub enum Kind {
 }
 
 /// A term's kind, how many parts it has, and the place of the first.
-#[derive(Clone, Copy)]
+#[derive(Clone, Copy, PartialEq, Eq, Debug)]
 pub struct Opening {
     pub kind: Kind,
     pub parts: u8,
@@ -36,7 +36,7 @@ pub struct Opening {
 }
 
 /// The arguments of an operation.
-#[derive(Clone, Copy)]
+#[derive(Clone, Copy, PartialEq, Eq, Debug)]
 pub enum Parts<'a> {
     Zero,
     One(View<'a>),
@@ -45,7 +45,7 @@ pub enum Parts<'a> {
 }
 
 /// A term as read: its kind, with its parts as views.
-#[derive(Clone, Copy)]
+#[derive(Clone, Copy, PartialEq, Eq, Debug)]
 pub enum Term<'a> {
     Parameter(u8),
     Variable(u8),
@@ -57,24 +57,38 @@ pub enum Term<'a> {
     Equal(View<'a>, View<'a>),
 }
 
-/// A field, and the place behind it.
-#[derive(Clone, Copy)]
-pub struct Field {
-    pub value: u32,
-    pub next: usize,
+// A field that fits a byte.
+fn field(reader: &mut BitReader, width: u32) -> Option<u8>
+    requires { width ≤ 8 }
+    ensures reads { reached (λ n. n) result reader.new.at ≡ field_at width reader.old.bytes.now reader.old.at }
+    ensures same { reader.new.bytes.now ≡ reader.old.bytes.now }
+{
+    let value = reader.next(width)?;
+    Some(value as u8)
 }
 
-fn field_at(bytes: &[u8], at: usize, width: u32) -> Option<Field>
-    requires { width ≤ 32 }
-    ensures reads { field_of result ≡ field_at width bytes.now at }
-    ensures small { IfSome result (λ x. x.value < 2 ^ width) }
+// The kind of a term, and how many parts it has.
+fn read_kind<G: Algebra>(alg: &G, reader: &mut BitReader) -> Option<(Kind, u8)>
+    ensures reads { reached kind_and_count result reader.new.at ≡ opening (G.meaning alg.now) reader.old.bytes.now reader.old.at }
+    ensures apt { IfSome result (λ o. Apt (G.meaning alg.now) o.0 o.1) }
 {
-    let mut reader = BitReader { bytes, at };
-    let value = reader.next(width)?;
-    Some(Field {
-        value,
-        next: reader.at,
-    })
+    match field(reader, 3)? {
+        0 => Some((Kind::Parameter(field(reader, 4)?), 0)),
+        1 => Some((Kind::Variable(field(reader, 2)?), 0)),
+        2 => {
+            let sort = field(reader, 4)?;
+            let value = field(reader, 8)?;
+            Some((Kind::Value { sort, value }, 0))
+        }
+        3 => {
+            let op = field(reader, 6)?;
+            Some((Kind::Operation(op), alg.arity(op)?))
+        }
+        4 => Some((Kind::Not, 1)),
+        5 => Some((Kind::And, 2)),
+        6 => Some((Kind::Or, 2)),
+        _ => Some((Kind::Equal, 2)),
+    }
 }
 
 // The kind of the term at the view.
@@ -82,67 +96,16 @@ fn open_term<G: Algebra>(alg: &G, view: View) -> Option<Opening>
     ensures reads { opening_of result ≡ opening (G.meaning alg.now) view.entry.bytes.now view.entry.at }
     ensures apt { IfSome result (λ o. Apt (G.meaning alg.now) o.kind o.parts) }
 {
-    let kind = field_at(view.bytes, view.at, 3)?;
-    let at = kind.next;
-    match kind.value {
-        0 => {
-            let n = field_at(view.bytes, at, 4)?;
-            Some(Opening {
-                kind: Kind::Parameter(n.value as u8),
-                parts: 0,
-                next: n.next,
-            })
-        }
-        1 => {
-            let n = field_at(view.bytes, at, 2)?;
-            Some(Opening {
-                kind: Kind::Variable(n.value as u8),
-                parts: 0,
-                next: n.next,
-            })
-        }
-        2 => {
-            let sort = field_at(view.bytes, at, 4)?;
-            let value = field_at(view.bytes, sort.next, 8)?;
-            Some(Opening {
-                kind: Kind::Value {
-                    sort: sort.value as u8,
-                    value: value.value as u8,
-                },
-                parts: 0,
-                next: value.next,
-            })
-        }
-        3 => {
-            let op = field_at(view.bytes, at, 6)?;
-            let parts = alg.arity(op.value as u8)?;
-            Some(Opening {
-                kind: Kind::Operation(op.value as u8),
-                parts,
-                next: op.next,
-            })
-        }
-        4 => Some(Opening {
-            kind: Kind::Not,
-            parts: 1,
-            next: at,
-        }),
-        5 => Some(Opening {
-            kind: Kind::And,
-            parts: 2,
-            next: at,
-        }),
-        6 => Some(Opening {
-            kind: Kind::Or,
-            parts: 2,
-            next: at,
-        }),
-        _ => Some(Opening {
-            kind: Kind::Equal,
-            parts: 2,
-            next: at,
-        }),
-    }
+    let mut reader = BitReader {
+        bytes: view.bytes,
+        at: view.at,
+    };
+    let (kind, parts) = read_kind(alg, &mut reader)?;
+    Some(Opening {
+        kind,
+        parts,
+        next: reader.at,
+    })
 }
 
 /// The place behind the term at the view, which has depth at most `depth`.
@@ -155,15 +118,8 @@ pub fn end_of_term<G: Algebra>(alg: &G, view: View, depth: u8) -> Option<usize>
     }
     let opening = open_term(alg, view)?;
     let mut at = opening.next;
-    for _i in 0..opening.parts {
-        at = end_of_term(
-            alg,
-            View {
-                bytes: view.bytes,
-                at,
-            },
-            depth - 1,
-        )?;
+    for _ in 0..opening.parts {
+        at = end_of_term(alg, View { at, ..view }, depth - 1)?;
     }
     Some(at)
 }
@@ -173,10 +129,7 @@ fn after<'a, G: Algebra>(alg: &G, view: View<'a>, depth: u8) -> Option<View<'a>>
     ensures { MatchOption result (behind (shape (G.meaning alg.now) depth view.entry.bytes.now view.entry.at) ≡ None) (λ v. (v.bytes.now ≡ view.entry.bytes.now) × (behind (shape (G.meaning alg.now) depth view.entry.bytes.now view.entry.at) ≡ Some v.at)) }
 {
     let at = end_of_term(alg, view, depth)?;
-    Some(View {
-        bytes: view.bytes,
-        at,
-    })
+    Some(View { at, ..view })
 }
 
 // The arguments of an operation, the first at the view.
@@ -185,18 +138,15 @@ fn split<'a, G: Algebra>(alg: &G, first: View<'a>, count: u8, depth: u8) -> Opti
     ensures reads { bind result (parts_of (G.meaning alg.now) depth) ≡ what (row (shape (G.meaning alg.now) depth) count first.entry.bytes.now first.entry.at) }
     ensures within { IfSome result (PartsIn first.entry.bytes.now) }
 {
-    if count == 0 {
-        return Some(Parts::Zero);
+    match count {
+        0 => Some(Parts::Zero),
+        1 => Some(Parts::One(first)),
+        2 => Some(Parts::Two(first, after(alg, first, depth)?)),
+        _ => {
+            let second = after(alg, first, depth)?;
+            Some(Parts::Three(first, second, after(alg, second, depth)?))
+        }
     }
-    if count == 1 {
-        return Some(Parts::One(first));
-    }
-    let second = after(alg, first, depth)?;
-    if count == 2 {
-        return Some(Parts::Two(first, second));
-    }
-    let third = after(alg, second, depth)?;
-    Some(Parts::Three(first, second, third))
 }
 
 /// The term at the view, which has depth at most `depth`, with its parts as views.
@@ -207,31 +157,20 @@ pub fn read_term<'a, G: Algebra>(alg: &G, view: View<'a>, depth: u8) -> Option<T
     if depth == 0 {
         return None;
     }
-    let opening = open_term(alg, view)?;
-    let first = View {
-        bytes: view.bytes,
-        at: opening.next,
-    };
-    match opening.kind {
+    let Opening { kind, parts, next } = open_term(alg, view)?;
+    let depth = depth - 1;
+    let first = View { at: next, ..view };
+    match kind {
         Kind::Parameter(n) => Some(Term::Parameter(n)),
         Kind::Variable(n) => Some(Term::Variable(n)),
         Kind::Value { sort, value } => Some(Term::Value { sort, value }),
         Kind::Operation(op) => {
-            let arguments = split(alg, first, opening.parts, depth - 1)?;
+            let arguments = split(alg, first, parts, depth)?;
             Some(Term::Operation { op, arguments })
         }
         Kind::Not => Some(Term::Not(first)),
-        Kind::And => {
-            let second = after(alg, first, depth - 1)?;
-            Some(Term::And(first, second))
-        }
-        Kind::Or => {
-            let second = after(alg, first, depth - 1)?;
-            Some(Term::Or(first, second))
-        }
-        Kind::Equal => {
-            let second = after(alg, first, depth - 1)?;
-            Some(Term::Equal(first, second))
-        }
+        Kind::And => Some(Term::And(first, after(alg, first, depth)?)),
+        Kind::Or => Some(Term::Or(first, after(alg, first, depth)?)),
+        Kind::Equal => Some(Term::Equal(first, after(alg, first, depth)?)),
     }
 }

@@ -5,7 +5,7 @@ use Rattle.terms.proofs.view.+end_of_term.Given as goal
 abbrev pub decreases-end_of_term : goal.decreases-end_of_term
 decreases-end_of_term g l = l.depth
 
-abbrev pub invariant-loop-i : goal.invariant-loop-i
-invariant-loop-i g l =
+abbrev pub invariant-loop : goal.invariant-loop
+invariant-loop g l =
     let r = shape (g.G.Algebra.meaning l.alg) (l.depth - 1) in
-    behind (row r l._i-end l.view.bytes.now l.initial.at) ≡ behind (row r (l._i-end - l._i) l.view.bytes.now l.at)
+    behind (row r l.end l.view.bytes.now l.initial.at) ≡ behind (row r (l.end - l.counter) l.view.bytes.now l.at)
