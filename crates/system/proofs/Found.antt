@@ -1,20 +1,34 @@
 -- Bodies, clauses and occurrences that are read are found.
-use Rattle.std.proofs.Common.{◌≡◌, ℕ, zero, suc, ◌+◌, ◌-◌, ◌<◌, ◌≤◌, List, [], ◌∷◌, ◌++◌, length, get_or, take as front, Some, None, Option, sym, refl, ap, ◌∙◌, arith}
+use Rattle.std.proofs.Common.{◌≡◌, ℕ, zero, suc, ◌+◌, ◌-◌, ◌<◌, ◌≤◌, List, [], ◌∷◌, ◌++◌, map, length, get_or, take as front, Some, None, Option, sym, refl, ap, ◌∙◌, arith, append_assoc, append-nil}
 use Rattle.faults.specs.declared.Reason.TheVariants.{NoSuchName}
 use Rattle.definitions.specs.Lists.{at, bind}
 use Rattle.definitions.specs.Alg.{Alg}
 use Rattle.definitions.specs.Systems.{Term, Occurrence, Clause, Equation}
 use Rattle.definitions.specs.Reading.{next, Reader, follow, take, given, repeated, one_by_one}
 use Rattle.definitions.specs.ReadSystem.{Scope, Sorted, Header, scope, greatest_depth, read_term, read_of, read_target, read_occurrence, read_clause, read_body}
+use Rattle.rows.specs.Listed.{listed}
 use Rattle.terms.specs.Shapes.{field_at, shape, what, behind, standing}
 use Rattle.terms.proofs.Laws.{followed, term_stands, field_is}
 use Rattle.system.specs.declared.places.BodyAt.{BodyAt}
 use Rattle.system.specs.declared.places.ClauseAt.{ClauseAt}
 use Rattle.system.specs.declared.places.OccurrenceAt.{OccurrenceAt}
 use Rattle.system.specs.Walks.{term_end, counted, term_places, occurrence_places, occurrences_end, clause_end, BodyPlaces, ClausePlaces, OccurrencePlaces, BodyFound, ClauseFound, OccurrenceFound, EndFound}
-use Rattle.system.proofs.Fills.{snoc, nil}
-use Rattle.system.proofs.Lists.{at_small}
-use Rattle.system.proofs.Outlines.{get_or_front}
+
+pub front_few : {X : Type 0} (n : ℕ) (xs : List X) → length (front n xs) ≤ n
+front_few zero xs = omega arith
+front_few (suc n) [] = omega arith
+front_few (suc n) (x ∷ xs) = let h : length (front n xs) ≤ n = front_few n xs in omega arith
+
+-- the member of a list, where each is told by another
+pub at_item : {X Y : Type 0} (g : X → Y) (xs : List X) (i : ℕ) (x : X) → i < length xs → x ≡ get_or xs i x → Some (g x) ≡ at (map g xs) i
+at_item g [] i x h e = absurd (omega arith)
+at_item g (y ∷ xs) zero x h e = ap (λ z. Some (g z)) e
+at_item g (y ∷ xs) (suc i) x h e = at_item g xs i x (omega arith) e
+
+pub at_none : {X Y : Type 0} (g : X → Y) (xs : List X) (i : ℕ) → length xs ≤ i → None ≡ at (map g xs) i
+at_none g [] i h = refl
+at_none g (y ∷ xs) zero h = absurd (omega arith)
+at_none g (y ∷ xs) (suc i) h = at_none g xs i (omega arith)
 
 abbrev stood : {A : Type 0} → A → ℕ → Option (A × ℕ)
 stood x q = Some (x, q)
@@ -257,14 +271,11 @@ module _ (a : Alg) (f : List ℕ) (p : ℕ) where
         never (o.target, (d.0, q)) (occurrence_places a hs f p) places d.1.0
     occurrence_found (Some x) places s o q short e =
         let d = occurrence_read a f short hs s p o q e in
-        let c = three o.target d.0 q x.target (front x.count x.arguments) x.next (sym d.1.0 ∙ places.0) in
-        let n : x.count ≡ length o.arguments = places.1.0 ∙ ap length (sym c.1.0) ∙ d.1.1.0 in
+        let c = three o.target d.0 q x.target (listed x.arguments) x.next (sym d.1.0 ∙ places) in
         record {
           target = sym c.0;
-          count = n;
-          arguments = λ k t h.
-              let l : k < x.count = (let m : k < length o.arguments = at_small o.arguments k t h in omega arith) in
-              ap (standing a greatest_depth f) (sym (get_or_front x.arguments x.count k l) ∙ ap (λ z. get_or z k 0) (sym c.1.0)) ∙ d.1.1.1 k t h;
+          count = ap length (sym c.1.0) ∙ d.1.1.0;
+          arguments = λ k t h. ap (λ z. standing a greatest_depth f (get_or z k 0)) (sym c.1.0) ∙ d.1.1.1 k t h;
           end = sym c.1.1;
         }
 
@@ -284,7 +295,7 @@ module _ (a : Alg) (f : List ℕ) where
 
   place_more : (xs : List ℕ) (p : ℕ) (o : Option (List ℕ × ℕ)) → prefixed xs (bind o (λ x. Some (p ∷ x.0, x.1))) ≡ prefixed (xs ++ (p ∷ [])) o
   place_more xs p None = refl
-  place_more xs p (Some y) = ap (λ z. stood z y.1) (snoc xs p y.0)
+  place_more xs p (Some y) = ap (λ z. stood z y.1) (sym (append_assoc xs (p ∷ []) y.0))
 
   pub place_next : (xs zs : List ℕ) (n i p q : ℕ) → i < n → Some q ≡ term_end a f p → xs ++ (p ∷ []) ≡ zs → prefixed xs (term_places a (n - i) f p) ≡ prefixed zs (term_places a (n - (i + 1)) f q)
   place_next xs zs n i p q h e k = go (n - i) (n - (i + 1)) (omega arith)
@@ -304,7 +315,7 @@ module _ (a : Alg) (f : List ℕ) where
       go (suc u) l = ap (λ (o : Option ℕ). prefixed xs (bind o (λ q. bind (term_places a u f q) (λ x. Some (p ∷ x.0, x.1))))) (sym e)
 
   pub place_end : (xs : List ℕ) (n i p : ℕ) → n ≡ i → prefixed xs (term_places a (n - i) f p) ≡ Some (xs, p)
-  place_end xs n i p h = let e : n - i ≡ 0 = omega arith in ap (λ z. prefixed xs (term_places a z f p)) e ∙ ap (λ z. stood z p) (nil xs)
+  place_end xs n i p h = let e : n - i ≡ 0 = omega arith in ap (λ z. prefixed xs (term_places a z f p)) e ∙ ap (λ z. stood z p) (append-nil xs)
 
   module _ (hs : List Header) where
     pub occurrence_no_target : (p : ℕ) → None ≡ field_at 5 f p → occurrence_places a hs f p ≡ None

@@ -5,12 +5,12 @@ use Rattle.definitions.specs.Alg.{Alg}
 use Rattle.definitions.specs.Systems.{Term, Occurrence, Clause, Equation}
 use Rattle.definitions.specs.Reading.{next, repeated}
 use Rattle.definitions.specs.ReadSystem.{Scope, Header, scope, greatest_depth, read_occurrence, read_clause, read_body}
-use Rattle.rows.specs.Listed.{listed}
 use Rattle.terms.specs.Shapes.{field_at, shape, behind, standing}
+use Rattle.rows.specs.declared.row.Row.{Row}
+use Rattle.rows.specs.Listed.{listed}
 use Rattle.system.specs.declared.places.BodyAt.{BodyAt}
 use Rattle.system.specs.declared.places.ClauseAt.{ClauseAt}
 use Rattle.system.specs.declared.places.OccurrenceAt.{OccurrenceAt}
-use Rattle.system.specs.declared.places.ArgumentsAt.{ArgumentsAt}
 
 -- the place behind the term at a place
 abbrev pub term_end : Alg → List ℕ → ℕ → Option ℕ
@@ -38,9 +38,9 @@ abbrev pub clause_end : Alg → List Header → List ℕ → ℕ → Option ℕ
 clause_end a hs f p = bind (counted a 3 f p) (λ n. occurrences_end a hs (suc n.0) f n.1)
 
 -- the answers
-abbrev pub arguments_of : Option ArgumentsAt → Option (List ℕ × ℕ)
+abbrev pub arguments_of : Option (Row ℕ 15 × ℕ) → Option (List ℕ × ℕ)
 arguments_of None = None
-arguments_of (Some x) = Some (listed x.places, x.next)
+arguments_of (Some x) = Some (listed x.0, x.1)
 
 -- a body that opens at p
 abbrev pub BodyPlaces : Alg → List ℕ → ℕ → Option BodyAt → Type 0

@@ -30,10 +30,3 @@ pub struct OccurrenceAt {
     pub next: usize,
     ghost present: { target < 31 },
 }
-
-/// The places of an occurrence's arguments, and the place behind them.
-#[derive(Clone, Copy)]
-pub struct ArgumentsAt {
-    pub places: Row<usize, 15>,
-    pub next: usize,
-}

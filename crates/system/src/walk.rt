@@ -1,96 +1,134 @@
 //! Walking an accepted file: bodies, clauses and occurrences, with their terms as places.
-ghost use Rattle.std.specs.Prelude.{◌≡◌, ℕ, ◌≤◌, length};
+ghost use Rattle.std.specs.Prelude.{◌≡◌, ℕ, ◌^◌, ◌<◌, ◌≤◌, List, Option, length, IfSome};
+ghost use Rattle.definitions.specs.Lists.{bind};
+ghost use Rattle.definitions.specs.Systems.{fold};
+ghost use Rattle.definitions.specs.Reading.{next};
+ghost use Rattle.definitions.specs.ReadSystem.{Scope, Sorted, greatest_depth, read_term};
+ghost use Rattle.definitions.specs.Values.{kind_known};
+ghost use Rattle.terms.specs.Shapes.{standing};
+ghost use Rattle.terms.specs.Known.{Alike};
 ghost use Rattle.system.specs.Whole.{kept_headers};
-ghost use Rattle.system.specs.Walks.{term_places, clause_end, arguments_of, BodyPlaces, ClausePlaces, OccurrencePlaces, BodyFound, ClauseFound, OccurrenceFound, EndFound};
+ghost use Rattle.system.specs.Walks.{term_places, counted, clause_end, arguments_of, BodyPlaces, ClausePlaces, OccurrencePlaces, BodyFound, ClauseFound, OccurrenceFound, EndFound};
 
 use crate::DEPTH;
-pub use crate::places::{ArgumentsAt, BodyAt, ClauseAt, OccurrenceAt};
-use crate::reading::Outline;
+use crate::outline::Outline;
+pub use crate::places::{BodyAt, ClauseAt, OccurrenceAt};
 use algebra::Algebra;
 use bits::BitReader;
 use rows::Row;
+use terms::value::{Environment, known_value};
 use terms::view::{View, end_of_term};
 
-/// The opening of the body at the place.
-pub fn open_body<G: Algebra>(alg: &G, bytes: &[u8], at: usize) -> Option<BodyAt>
-    ensures places { BodyPlaces (G.meaning alg.now) bytes.now at result }
-    ensures found { BodyFound (G.meaning alg.now) bytes.now at result }
-{
-    let end = end_of_term(alg, View { bytes, at }, DEPTH)?;
-    let mut reader = BitReader { bytes, at: end };
-    let count = reader.next(4)?;
-    Some(BodyAt {
-        h: at,
-        count: count as u8,
-        next: reader.at,
-    })
+/// An accepted file with its outline, over its algebra.
+pub struct Accepted<'a, G> {
+    pub alg: &'a G,
+    pub outline: &'a Outline,
+    pub file: &'a [u8],
 }
 
-/// The opening of the clause at the place.
-pub fn open_clause<G: Algebra>(alg: &G, bytes: &[u8], at: usize) -> Option<ClauseAt>
-    ensures places { ClausePlaces (G.meaning alg.now) bytes.now at result }
-    ensures found { ClauseFound (G.meaning alg.now) bytes.now at result }
-{
-    let end = end_of_term(alg, View { bytes, at }, DEPTH)?;
-    let mut reader = BitReader { bytes, at: end };
-    let count = reader.next(3)?;
-    Some(ClauseAt {
-        guard: at,
-        count: count as u8 + 1,
-        next: reader.at,
-    })
-}
-
-// The places of the arguments for parameters of the sorts, from the place on.
-fn arguments_at<G: Algebra>(alg: &G, sorts: &[u8], bytes: &[u8], at: usize) -> Option<ArgumentsAt>
-    requires { length sorts.now ≤ 15 }
-    ensures { arguments_of result ≡ term_places (G.meaning alg.now) (length sorts.now) bytes.now at }
-{
-    let mut places = Row::new(0);
-    let mut next = at;
-    for _ in sorts {
-        places.push(next).unwrap();
-        next = end_of_term(alg, View { bytes, at: next }, DEPTH)?;
+impl<'a, G: Algebra> Accepted<'a, G> {
+    /// The view of the term at the place.
+    pub fn view(&self, at: usize) -> View<'a>
+        ensures file { result.bytes.now ≡ self.now.file.now }
+        ensures place { result.at ≡ at }
+    {
+        let bytes = self.file;
+        View { bytes, at }
     }
-    Some(ArgumentsAt { places, next })
-}
 
-/// The occurrence at the place.
-pub fn open_occurrence<G: Algebra>(
-    alg: &G,
-    outline: &Outline,
-    bytes: &[u8],
-    at: usize,
-) -> Option<OccurrenceAt>
-    ensures places { OccurrencePlaces (G.meaning alg.now) (kept_headers outline.now) bytes.now at result }
-    ensures found { OccurrenceFound (G.meaning alg.now) (kept_headers outline.now) bytes.now at result }
-{
-    let mut reader = BitReader { bytes, at };
-    let target = reader.next(5)?;
-    let equation = outline.equations.as_slice().get(target as usize)?;
-    let found = arguments_at(alg, equation.header.sorts.as_slice(), bytes, reader.at)?;
-    let arguments = found.places;
-    Some(OccurrenceAt {
-        target: target as u8,
-        arguments,
-        next: found.next,
-    })
-}
-
-/// The place behind the clause at the place.
-pub fn end_of_clause<G: Algebra>(
-    alg: &G,
-    outline: &Outline,
-    bytes: &[u8],
-    at: usize,
-) -> Option<usize>
-    ensures places { result ≡ clause_end (G.meaning alg.now) (kept_headers outline.now) bytes.now at }
-    ensures found { EndFound (G.meaning alg.now) (kept_headers outline.now) bytes.now at result }
-{
-    let clause = open_clause(alg, bytes, at)?;
-    let mut next = clause.next;
-    for _k in 0..clause.count {
-        next = open_occurrence(alg, outline, bytes, next)?.next;
+    /// The known value of the term at the place; none where no term stands there.
+    pub fn known(&self, env: &Environment, at: usize) -> Option<u8>
+        ensures value { (ps vs : List (Option ℕ)) → Alike env.now.parameters ps → Alike env.now.variables vs → result ≡ bind (standing (G.meaning self.now.alg.now) greatest_depth self.now.file.now at) (λ t. fold t (kind_known (G.meaning self.now.alg.now) ps vs)) }
+        ensures accepted { (c : Scope) (need : Option ℕ) (x : Sorted) (q : ℕ) → length self.now.file.now ≤ 65536 → read_term (G.meaning self.now.alg.now) c greatest_depth need self.now.file.now at ≡ next x q → (ps vs : List (Option ℕ)) → Alike env.now.parameters ps → Alike env.now.variables vs → result ≡ fold x.the_term (kind_known (G.meaning self.now.alg.now) ps vs) }
+    {
+        known_value(self.alg, env, self.view(at), DEPTH)
     }
-    Some(next)
+
+    // The number behind the term at the place, and the place behind the number.
+    fn counted(&self, width: u32, at: usize) -> Option<(u32, usize)>
+        requires { width ≤ 32 }
+        ensures reads { result ≡ counted (G.meaning self.now.alg.now) width self.now.file.now at }
+        ensures small { IfSome result (λ x. x.0 < 2 ^ width) }
+    {
+        let end = end_of_term(self.alg, self.view(at), DEPTH)?;
+        let mut reader = BitReader {
+            bytes: self.file,
+            at: end,
+        };
+        let number = reader.next(width)?;
+        Some((number, reader.at))
+    }
+
+    /// The opening of the body at the place.
+    pub fn open_body(&self, at: usize) -> Option<BodyAt>
+        ensures places { BodyPlaces (G.meaning self.now.alg.now) self.now.file.now at result }
+        ensures found { BodyFound (G.meaning self.now.alg.now) self.now.file.now at result }
+    {
+        let (count, next) = self.counted(4, at)?;
+        Some(BodyAt {
+            h: at,
+            count: count as u8,
+            next,
+        })
+    }
+
+    /// The opening of the clause at the place.
+    pub fn open_clause(&self, at: usize) -> Option<ClauseAt>
+        ensures places { ClausePlaces (G.meaning self.now.alg.now) self.now.file.now at result }
+        ensures found { ClauseFound (G.meaning self.now.alg.now) self.now.file.now at result }
+    {
+        let (count, next) = self.counted(3, at)?;
+        Some(ClauseAt {
+            guard: at,
+            count: count as u8 + 1,
+            next,
+        })
+    }
+
+    // The places of so many arguments from the place on, and the place behind them.
+    fn arguments_at(&self, count: usize, at: usize) -> Option<(Row<usize, 15>, usize)>
+        requires { count ≤ 15 }
+        ensures { arguments_of result ≡ term_places (G.meaning self.now.alg.now) count self.now.file.now at }
+    {
+        let mut places = Row::new(0);
+        let mut next = at;
+        for _ in 0..count {
+            places.push(next).unwrap();
+            next = end_of_term(self.alg, self.view(next), DEPTH)?;
+        }
+        Some((places, next))
+    }
+
+    /// The occurrence at the place.
+    pub fn open_occurrence(&self, at: usize) -> Option<OccurrenceAt>
+        ensures places { OccurrencePlaces (G.meaning self.now.alg.now) (kept_headers self.now.outline.now) self.now.file.now at result }
+        ensures found { OccurrenceFound (G.meaning self.now.alg.now) (kept_headers self.now.outline.now) self.now.file.now at result }
+    {
+        let mut reader = BitReader {
+            bytes: self.file,
+            at,
+        };
+        let target = reader.next(5)?;
+        let equation = self.outline.equations.as_slice().get(target as usize)?;
+        let sorts = equation.header.sorts.as_slice();
+        let (arguments, next) = self.arguments_at(sorts.len(), reader.at)?;
+        Some(OccurrenceAt {
+            target: target as u8,
+            arguments,
+            next,
+        })
+    }
+
+    /// The place behind the clause at the place.
+    pub fn end_of_clause(&self, at: usize) -> Option<usize>
+        ensures places { result ≡ clause_end (G.meaning self.now.alg.now) (kept_headers self.now.outline.now) self.now.file.now at }
+        ensures found { EndFound (G.meaning self.now.alg.now) (kept_headers self.now.outline.now) self.now.file.now at result }
+    {
+        let clause = self.open_clause(at)?;
+        let mut next = clause.next;
+        for _ in 0..clause.count {
+            next = self.open_occurrence(next)?.next;
+        }
+        Some(next)
+    }
 }
