@@ -1,5 +1,5 @@
+pub mod Signs
 pub mod Parts
-pub mod Members
 pub mod Entering
 pub mod Monotone
 pub mod Rounds
