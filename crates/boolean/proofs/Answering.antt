@@ -18,6 +18,7 @@ use Rattle.system.specs.declared.header.Sign.{Sign as KeptSign}
 use Rattle.system.specs.Files.{kept_sign}
 use Rattle.boolean.specs.declared.entries.Variables.{Variables}
 use Rattle.boolean.specs.declared.blocks.Blocks.{Blocks}
+use Rattle.theorems.proofs.Listing.{from_long}
 use Rattle.boolean.specs.Steps.{assigned}
 use Rattle.boolean.specs.Files.{SignKept, Described}
 use Rattle.boolean.proofs.Entering.{ranks_small, alike_everywhere}
@@ -66,10 +67,6 @@ taken g (suc n) k (x ∷ xs) l h =
     let i : k + 0 ≡ k = omega arith in
     ap (λ y. truth y ∷ map truth (take n xs)) (h 0 ∙ ap g i) ∙
     ap (λ ys. truth (g k) ∷ ys) (taken g n (suc k) xs (omega arith) (λ j. let e : k + suc j ≡ suc k + j = omega arith in h (suc j) ∙ ap g e))
-
-from_long : (k n : ℕ) → length (from k n) ≡ n
-from_long k zero = refl
-from_long k (suc n) = ap suc (from_long (suc k) n)
 
 pub solves_long : (vs : List Variable) → length (solves vs) ≡ length vs
 solves_long vs = length-map (up_to (length vs)) _ ∙ from_long 0 (length vs)

@@ -24,8 +24,10 @@ use Rattle.system.specs.declared.header.Sign.TheVariants.{Least}
 use Rattle.system.specs.Files.{kept_sign}
 use Rattle.boolean.specs.declared.blocks.Blocks.{Blocks}
 use Rattle.boolean.specs.Ranked.{variable_body, Signed, in_block, block_at, blocks_below, used_by, Merged}
-use Rattle.boolean.proofs.Monotone.{variables_mono, rank_enough}
-use Rattle.boolean.proofs.Weights.{from_mem}
+use Rattle.theorems.proofs.Expands.{variables_mono}
+use Rattle.theorems.proofs.Enough.{rank_enough}
+use Rattle.theorems.proofs.Listing.{from_long}
+use Rattle.theorems.proofs.Marks.{from_mem}
 
 -- blocks of one sign and the same members are alike, whatever their rounds
 module _ {I V : Type 0} (O : Order V) (body : (I → V) → I → V) (m : Monotone O body) (bs : List (Block I)) where
@@ -53,10 +55,6 @@ in_below vs bs k j h = go (at vs j) refl h
     go : (o : Option Variable) → at vs j ≡ o → in_block o bs k ≡ true → j < length vs
     go None e h = absurd (false≢true h)
     go (Some v) e h = at_below vs j v e
-
-from_long : (k n : ℕ) → length (from k n) ≡ n
-from_long k zero = refl
-from_long k (suc n) = ap suc (from_long (suc k) n)
 
 pub block_enough : (vs : List Variable) (bs : List ℕ) (k : ℕ) (s : KeptSign) → Enough order.truths (block_at vs bs k s)
 block_enough vs bs k s =

@@ -24,9 +24,12 @@ use Rattle.boolean.specs.declared.entries.Variables.{Variables}
 use Rattle.boolean.specs.Steps.{assigned, mapped, read_said}
 use Rattle.boolean.specs.Files.{Kept, Described}
 use Rattle.rows.specs.Listed.{listed}
+use Rattle.boolean.specs.declared.solver.Solver.{Solver}
+use Rattle.boolean.specs.Solvers.{variables, body, inside}
 use Rattle.boolean.proofs.Entering.{all_kept_long, kept_at}
 use Rattle.boolean.specs.Ranked.{variable_body, in_block, blocks_below, moving, moves_to, Visited, Swept, members}
-use Rattle.boolean.proofs.Weights.{from_mem, lighter}
+use Rattle.theorems.proofs.Marks.{from_mem}
+use Rattle.boolean.proofs.Weights.{lighter}
 use Rattle.boolean.proofs.Merges.{in_below}
 
 pub moves_le : (s : KeptSign) (a b : Bool) → (a ≡ moves_to s → b ≡ moves_to s) → Le (moving s) a b
@@ -146,31 +149,33 @@ module _ (b : Block ℕ) (t : Bool) (h : ℕ → Bool) (i : ℕ) (ts : List Bool
       go x (yes l) = done x l
       go x (no l) = rest x (omega arith) ∙ sym (cond_false (b.inside x) t (h x) (in_no x l (b.inside x) refl))
 
--- a variable, by its entry
-module _ (f : List ℕ) (vs : List Variable) (x : Variables) (t : ∥ Described f vs x ∥₁) where
-  pub count_told : length (listed x.entries) ≡ length vs
-  count_told = ∥∥₁_elim t (ℕ_set _ _) (λ d. all_kept_long f (length vs) vs (listed x.entries) d.entries)
+-- a variable of what is being solved, by its entry
+module _ (s : Solver) where
+  pub count_told : length (listed s.variables.now.entries) ≡ length (variables s)
+  count_told = ∥∥₁_elim s.described (ℕ_set _ _) (λ d. all_kept_long s.file.now (length (variables s)) (variables s) (listed s.variables.now.entries) d.entries)
 
-  module _ (v : ℕ) (e : Entry) (es : List Entry) (same : es ≡ listed x.entries) (is : e ≡ get_or es v e) (l : v < length es) where
-    here : Described f vs x → (w : Variable) × (at vs v ≡ Some w) × Kept f (length vs) w e
+  module _ (v : ℕ) (e : Entry) (es : List Entry) (same : es ≡ listed s.variables.now.entries) (is : e ≡ get_or es v e) (l : v < length es) where
+    here : Described s.file.now (variables s) s.variables.now → (w : Variable) × (at (variables s) v ≡ Some w) × Kept s.file.now (length (variables s)) w e
     here d =
-        let k = kept_at f (length vs) vs (listed x.entries) d.entries v e (subst (λ es. v < length es) same l) in
-        (k.0, k.1, subst (Kept f (length vs) k.0) (sym (is ∙ ap (λ es. get_or es v e) same)) k.2)
+        let k = kept_at s.file.now (length (variables s)) (variables s) (listed s.variables.now.entries) d.entries v e (subst (λ es. v < length es) same l) in
+        (k.0, k.1, subst (Kept s.file.now (length (variables s)) k.0) (sym (is ∙ ap (λ es. get_or es v e) same)) k.2)
 
-    pub belongs_told : (bs : List ℕ) (k : ℕ) → eqb (get_or bs e.rank 0) k ≡ in_block (at vs v) bs k
-    belongs_told bs k = ∥∥₁_elim t (Bool-set _ _) (λ d. ap (λ y. eqb (get_or bs y 0) k) (here d).2.rank ∙ ap (λ o. in_block o bs k) (sym (here d).1))
+    pub belongs_told : (k : ℕ) → eqb (get_or s.blocks.now.ranks e.rank 0) k ≡ inside s k v
+    belongs_told k =
+        ∥∥₁_elim s.described (Bool-set _ _)
+        (λ d. ap (λ y. eqb (get_or s.blocks.now.ranks y 0) k) (here d).2.rank ∙ ap (λ o. in_block o s.blocks.now.ranks k) (sym (here d).1))
 
     module _ (h : ℕ → Bool) where
-      body_is : Described f vs x → (q : ℕ) × (read_said (length es) 8 h f (get_or es v e).body ≡ next (variable_body vs h v) q)
+      body_is : Described s.file.now (variables s) s.variables.now → (q : ℕ) × (read_said (length es) 8 h s.file.now e.body ≡ next (body s h v) q)
       body_is d =
           let b = (here d).2.body in
-          (b.0, ap (λ (e : Entry). read_said (length es) 8 h f e.body) (sym is) ∙ ap (λ n. read_said n 8 h f e.body) (ap length same ∙ count_told) ∙ ap (mapped (λ p. said p h)) b.1 ∙ ap (λ o. next (body_at o h) b.0) (sym (here d).1))
+          (b.0, ap (λ n. read_said n 8 h s.file.now e.body) (ap length same ∙ count_told) ∙ ap (mapped (λ p. said p h)) b.1 ∙ ap (λ o. next (body_at o h) b.0) (sym (here d).1))
 
-      pub body_told : (b : Bool) (u : ℕ) → next b u ≡ read_said (length es) 8 h f (get_or es v e).body → b ≡ variable_body vs h v
-      body_told b u z = ∥∥₁_elim t (Bool-set _ _) (λ d. let j : next b u ≡ next (variable_body vs h v) (body_is d).0 = z ∙ (body_is d).1 in cc)
+      pub body_told : (b : Bool) (u : ℕ) → next b u ≡ read_said (length es) 8 h s.file.now e.body → b ≡ body s h v
+      body_told b u z = ∥∥₁_elim s.described (Bool-set _ _) (λ d. let j : next b u ≡ next (body s h v) (body_is d).0 = z ∙ (body_is d).1 in cc)
 
-      pub body_reads : (s : Reason) (u : ℕ) → stop s u ≡ read_said (length es) 8 h f (get_or es v e).body → ⊥
-      body_reads s u z = ∥∥₁_elim t (λ x y. absurd x) (λ d. let j : stop s u ≡ next (variable_body vs h v) (body_is d).0 = z ∙ (body_is d).1 in let z : ◌≡◌ {A = ℕ} 0 1 = cc in omega arith)
+      pub body_reads : (r : Reason) (u : ℕ) → stop r u ≡ read_said (length es) 8 h s.file.now e.body → ⊥
+      body_reads r u z = ∥∥₁_elim s.described (λ x y. absurd x) (λ d. let j : stop r u ≡ next (body s h v) (body_is d).0 = z ∙ (body_is d).1 in let z : ◌≡◌ {A = ℕ} 0 1 = cc in omega arith)
 
 take_le : {A : Type 0} (n : ℕ) (xs : List A) → length (take n xs) ≤ n
 take_le zero [] = omega arith

@@ -14,14 +14,6 @@ keep_mem p {x} h (Memᴰ.tail {x = y} {xs} m) = go (keep_mem p h m) (p y)
     go k true = Memᴰ.tail k
     go k false = k
 
-pub from_mem : (k n x : ℕ) → k ≤ x → x < k + n → Memᴰ x (from k n)
-from_mem k zero x l h = absurd (omega arith)
-from_mem k (suc n) x l h = go (dec_lt k x) (λ q. from_mem (suc k) n x (omega arith) (omega arith))
-  where
-    go : Dec (k < x) → (k < x → Memᴰ x (from (suc k) n)) → Memᴰ x (from k (suc n))
-    go (yes q) ih = Memᴰ.tail (ih q)
-    go (no q) ih = let e : x ≡ k = omega arith in Memᴰ.head e
-
 total_keep : {I V : Type 0} (O : Order V) (p : I → Bool) (l : List I) (f g : I → V) → ((x : I) → p x ≡ true → f x ≡ g x) → total O (keep p l) f ≡ total O (keep p l) g
 total_keep O p [] f g h = refl
 total_keep O p (x ∷ l) f g h = go (total_keep O p l f g h) (p x) refl

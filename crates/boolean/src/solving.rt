@@ -58,12 +58,13 @@ impl<'a> Solver<'a> {
             return false;
         }
         let entries = self.variables.entries.as_slice();
-        if !self.belongs(k, &entries[v]) {
+        let entry = &entries[v];
+        if !self.belongs(k, entry) {
             return false;
         }
         let mut cursor = Cursor {
             bytes: self.file,
-            at: entries[v].body,
+            at: entry.body,
         };
         let Ok(truth) = read_body(&mut cursor, entries.len() as u32, truths, BODY_DEPTH) else {
             return false;

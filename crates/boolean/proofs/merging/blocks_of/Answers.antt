@@ -7,9 +7,6 @@ use Rattle.boolean.proofs.merging.blocks_of.Goals as goal
 pub loop-rank-init : goal.loop-rank-init
 loop-rank-init c = merged_none c.args.signs.now _ refl c.new.ensures (λ r l. get_or-replicate 32 r 32 0 l)
 
-pub put_rank-requires-clause-few : goal.put_rank-requires-clause-few
-put_rank-requires-clause-few c = omega (arith, c.loop-rank.invariant.few, c.loop-rank-test.true)
-
 pub loop-rank-preserved-in-Some : goal.loop-rank-preserved-in-Some
 loop-rank-preserved-in-Some c =
     let r = c.loop-rank.rank in

@@ -26,9 +26,6 @@ returns-in_err-read_entry-clause-told c =
     (listing_stop c.args.cursor.now.bytes.now c.args.count c.args.cursor.now.at c.loop.counter c.loop.cursor.at c.loop.variables i.0 (omega arith) c.loop.cursor.bytes.now i.1
     e.reason e.place (c.in_err-read_entry.ensures.told i.0.variables))
 
-pub returns-in_err-read_entry-clause-same : goal.returns-in_err-read_entry-clause-same
-returns-in_err-read_entry-clause-same c = c.in_err-read_entry.ensures.same ∙ c.loop.invariant.1
-
 pub loop-preserved : goal.loop-preserved
 loop-preserved c =
     let i = c.loop.invariant in (
@@ -42,5 +39,3 @@ returns-clause-told c =
     let k : c.args.count - c.loop.counter ≡ 0 = omega arith in
     subst (λ (m : ℕ). Listing c.args.cursor.now.bytes.now c.args.count c.args.cursor.now.at m c.loop.cursor.at c.loop.variables) k c.loop.invariant.0
 
-pub returns-clause-same : goal.returns-clause-same
-returns-clause-same c = c.loop.invariant.1

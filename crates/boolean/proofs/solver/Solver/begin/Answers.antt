@@ -20,7 +20,7 @@ loop-v-preserved c =
     let ts = c.loop-v.truths in
     let es = c.as_slice-entry-items in
     let long = ap length es.ensures in
-    let told = belongs_told s.file.now (variables s) s.variables.now s.described v c.entry-item.result es.result.now es.ensures c.entry-item.is c.loop-v-test.true s.blocks.now.ranks c.args.k in
+    let told = belongs_told s v c.entry-item.result es.result.now es.ensures c.entry-item.is c.loop-v-test.true c.args.k in
     elim c.if-belongs.branch [
       | then-belongs w ↦
           let z = begun_is b t h (v + 1) c.if-belongs.truths (set ts v t) w.truths-is
@@ -38,7 +38,7 @@ returns c =
     let k = c.args.k in
     let b = block s k in
     let h = assigned c.args.truths.now in
-    let long = ap length c.as_slice-entry-items.ensures ∙ count_told s.file.now (variables s) s.variables.now s.described in
+    let long = ap length c.as_slice-entry-items.ensures ∙ count_told s in
     begun_end b (not c.moves_to-start.result) h c.loop-v.v c.loop-v.truths c.loop-v.invariant.1 c.loop-v.invariant.2
     (λ x p. let l : x < length (variables s) = in_below (variables s) s.blocks.now.ranks k x p in omega (arith, c.loop-v-test.false)) ∙
     ap (λ z. put b (λ _. z) h) (ap not (c.moves_to-start.ensures ∙ ap (λ ss. moves_to (get_or ss k Least)) c.as_slice.ensures) ∙ start_edge (sign s k))

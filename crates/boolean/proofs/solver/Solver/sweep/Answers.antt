@@ -3,7 +3,7 @@ use Rattle.system.specs.declared.header.Sign.TheVariants.{Least}
 use Rattle.boolean.specs.Steps.{assigned}
 use Rattle.boolean.specs.Ranked.{moves_to, Swept}
 use Rattle.boolean.specs.Solvers.{variables, sign, body, inside}
-use Rattle.boolean.proofs.Monotone.{variables_mono}
+use Rattle.theorems.proofs.Expands.{variables_mono}
 use Rattle.boolean.proofs.Merges.{in_below}
 use Rattle.boolean.proofs.Sweeping.{count_told, few_entries, swept_start, swept_next}
 use Rattle.boolean.proofs.solver.Solver.sweep.Goals as goal
@@ -12,7 +12,7 @@ pub loop-v-init : goal.loop-v-init
 loop-v-init c =
     let s = c.args.self.now in
     let k = c.args.k in
-    let long = ap length c.as_slice-v.ensures ∙ count_told s.file.now (variables s) s.variables.now s.described in (
+    let long = ap length c.as_slice-v.ensures ∙ count_told s in (
       search rules,
       swept_start (sign s k) (body s) (inside s k) (assigned c.args.truths.now) (length c.as_slice-v.result.now)
           (λ x h. let l : x < length (variables s) = in_below (variables s) s.blocks.now.ranks k x h in omega arith),
@@ -40,9 +40,3 @@ loop-v-preserved c =
           (omega (arith, c.loop-v-test.true, c.loop-v.auto.v, c.loop-v.invariant.0, few_entries s.variables.now)) c.loop-v.invariant.1 c.if-visit.ensures,
     )
 
-pub returns : goal.returns
-returns c =
-    let s = c.args.self.now in
-    let k = c.args.k in
-    let z : c.loop-v.v ≡ 0 = omega (arith, c.loop-v-test.false) in
-    subst (λ (n : ℕ). Swept (sign s k) (body s) (inside s k) n (assigned c.args.truths.now) (assigned c.loop-v.truths) c.loop-v.changed) z c.loop-v.invariant.1
