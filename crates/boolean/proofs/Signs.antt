@@ -1,5 +1,5 @@
 -- `==` of signs.
-use Rattle.std.proofs.Common.{◌≡◌, Bool, true, false, refl}
+use Rattle.std.proofs.Common.{◌≡◌, true, refl}
 use mathlib.Core.Bool.{false≢true}
 use Rattle.definitions.specs.Boolean.{same_sign}
 use Rattle.system.specs.contracts.header.SignPartialEq.TheImpl.{ghosts}

@@ -27,7 +27,7 @@ use Rattle.rows.specs.Listed.{listed}
 use Rattle.boolean.specs.declared.solver.Solver.{Solver}
 use Rattle.boolean.specs.Solvers.{variables, body, inside}
 use Rattle.boolean.proofs.Entering.{all_kept_long, kept_at}
-use Rattle.boolean.specs.Ranked.{variable_body, in_block, blocks_below, moving, moves_to, Visited, Swept, members}
+use Rattle.boolean.specs.Ranked.{in_block, blocks_below, moving, moves_to, Visited, Swept, members}
 use Rattle.theorems.proofs.Marks.{from_mem}
 use Rattle.boolean.proofs.Weights.{lighter}
 use Rattle.boolean.proofs.Merges.{in_below}

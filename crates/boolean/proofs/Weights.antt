@@ -1,8 +1,8 @@
 -- The number of variables of a block that have not moved.
-use Rattle.std.proofs.Common.{◌≡◌, ℕ, zero, suc, ◌+◌, ◌<◌, ◌≤◌, Bool, true, false, List, [], ◌∷◌, sym, refl, ap, ◌∙◌, arith}
+use Rattle.std.proofs.Common.{◌≡◌, ◌+◌, ◌<◌, ◌≤◌, Bool, true, false, List, [], ◌∷◌, sym, refl, ap, ◌∙◌, arith}
 use mathlib.Core.List.{Memᴰ}
 use native.Mathlib.Decide.{dec_lt}
-use Rattle.definitions.specs.Lists.{keep, from}
+use Rattle.definitions.specs.Lists.{keep}
 use Rattle.definitions.specs.Order.{Order, dual, Below}
 use Rattle.fixpoint.proofs.Rounds.{total, total_same}
 

@@ -38,4 +38,3 @@ pub returns-clause-told : goal.returns-clause-told
 returns-clause-told c =
     let k : c.args.count - c.loop.counter ≡ 0 = omega arith in
     subst (λ (m : ℕ). Listing c.args.cursor.now.bytes.now c.args.count c.args.cursor.now.at m c.loop.cursor.at c.loop.variables) k c.loop.invariant.0
-

@@ -1,4 +1,4 @@
-use Rattle.std.proofs.Common.{◌≡◌, sym, refl, ap, ◌∙◌, subst, arith, rules}
+use Rattle.std.proofs.Common.{sym, refl, ap, ◌∙◌, subst, rules}
 use Rattle.definitions.specs.Reading.{take}
 use Rattle.definitions.specs.Boolean.{said, read_token}
 use Rattle.bits.proofs.InRow.{passed}

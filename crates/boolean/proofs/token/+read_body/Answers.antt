@@ -1,7 +1,6 @@
-use Rattle.std.proofs.Common.{◌≡◌, ℕ, ◌+◌, ◌-◌, Bool, eqb, List, [], ◌∷◌, ◌++◌, Err, sym, refl, ap, ◌∙◌, arith}
+use Rattle.std.proofs.Common.{◌+◌, ◌-◌, Bool, eqb, [], ◌∷◌, ◌++◌, Err, sym, refl, ap, ◌∙◌, arith}
 use Rattle.std.specs.Cmp.{booleans_Decides}
 use Rattle.std.proofs.lemmas.Bool.Decides.{not_from_Decides}
-use Rattle.faults.specs.declared.Reason.TheVariants.{NoSuchName}
 use Rattle.definitions.specs.Reading.{next, stop}
 use Rattle.definitions.specs.Boolean.{said, read_token}
 use Rattle.bits.specs.Told.{told}

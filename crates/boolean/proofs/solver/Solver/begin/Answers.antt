@@ -1,4 +1,4 @@
-use Rattle.std.proofs.Common.{◌≡◌, ◌+◌, ◌<◌, not, length, get_or, set, sym, ap, ◌∙◌, arith}
+use Rattle.std.proofs.Common.{◌+◌, ◌<◌, not, length, get_or, set, sym, ap, ◌∙◌, arith}
 use Rattle.definitions.specs.Solution.{put}
 use Rattle.system.specs.declared.header.Sign.TheVariants.{Least}
 use Rattle.boolean.specs.Steps.{assigned}

@@ -1,7 +1,7 @@
-use Rattle.std.proofs.Common.{◌≡◌, ℕ, ◌-◌, ◌<◌, true, false, length, get_or, ap, ◌∙◌, subst, arith, rules}
+use Rattle.std.proofs.Common.{◌-◌, ◌<◌, true, false, length, get_or, ap, ◌∙◌, arith, rules}
 use Rattle.system.specs.declared.header.Sign.TheVariants.{Least}
 use Rattle.boolean.specs.Steps.{assigned}
-use Rattle.boolean.specs.Ranked.{moves_to, Swept}
+use Rattle.boolean.specs.Ranked.{moves_to}
 use Rattle.boolean.specs.Solvers.{variables, sign, body, inside}
 use Rattle.theorems.proofs.Expands.{variables_mono}
 use Rattle.boolean.proofs.Merges.{in_below}
@@ -39,4 +39,3 @@ loop-v-preserved c =
           (omega (arith, c.loop-v-test.true)) (c.moves_to-to.ensures ∙ ap (λ ss. moves_to (get_or ss k Least)) c.as_slice.ensures)
           (omega (arith, c.loop-v-test.true, c.loop-v.auto.v, c.loop-v.invariant.0, few_entries s.variables.now)) c.loop-v.invariant.1 c.if-visit.ensures,
     )
-
