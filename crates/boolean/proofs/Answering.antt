@@ -1,12 +1,13 @@
 -- What solve answers.
-use Rattle.std.proofs.Common.{◌≡◌, ℕ, zero, suc, ◌+◌, ◌<◌, ◌≤◌, Bool, true, false, ◌||◌, eqb, ltb, List, [], ◌∷◌, ◌++◌, map, length, get_or, take, drop, set, replicate, Some, None, sym, refl, ap, ◌∙◌, add-one, arith, ltb-false, eqb-true, le-leb}
+use Rattle.std.proofs.Common.{◌≡◌, ℕ, zero, suc, ◌+◌, ◌-◌, ◌<◌, ◌≤◌, Bool, true, false, ◌||◌, eqb, ltb, List, [], ◌∷◌, ◌++◌, map, length, get_or, take, drop, set, replicate, Some, None, Option, sym, refl, ap, ◌∙◌, add-one, arith, ltb-false, eqb-true, le-leb}
 use mathlib.Core.Path.{fun_ext}
 use mathlib.Core.Bool.{false≢true}
 use lib.ListN.{length-map}
+use Rattle.std.proofs.lemmas.List.{length-take-le}
 use mir.Val.{bool_byte}
 use borrow.Author.Tests.{lt-leb}
 use Rattle.faults.specs.declared.Reason.TheVariants.{TooFewTruths, BadLength}
-use Rattle.definitions.specs.Lists.{at, some, from, up_to, is_some}
+use Rattle.definitions.specs.Lists.{some, from, up_to, is_some}
 use Rattle.definitions.specs.Algebras.{truth}
 use Rattle.definitions.specs.Reading.{Reading, got, bad, ended, complete}
 use Rattle.definitions.specs.Boolean.{Variable, rank_of, sign_of_rank, boolean_reading, read_boolean, solves, rank_block, used_ranks}
@@ -17,8 +18,12 @@ use Rattle.system.specs.declared.header.Sign.{Sign as KeptSign}
 use Rattle.system.specs.Files.{kept_sign}
 use Rattle.boolean.specs.declared.entries.Variables.{Variables}
 use Rattle.boolean.specs.declared.blocks.Blocks.{Blocks}
+use Rattle.theorems.proofs.Listing.{from_long}
 use Rattle.boolean.specs.Steps.{assigned}
-use Rattle.boolean.specs.Files.{Described}
+use Rattle.boolean.specs.Files.{SignKept, Described}
+use Rattle.boolean.proofs.Entering.{ranks_small, alike_everywhere}
+use Rattle.rows.specs.Listed.{listed}
+use Rattle.definitions.specs.Fits.{Every}
 use Rattle.boolean.specs.Ranked.{variables_by, variables_of, variable_body, Signed, SolvedAlike, blocks_of}
 
 pub got_small : (f : List ℕ) (vs : List Variable) → boolean_reading f ≡ got vs → length f ≤ 65535
@@ -33,33 +38,27 @@ pub variables_of_lem : (f : List ℕ) (vs : List Variable) → boolean_reading f
 unfolding variables_of
 variables_of_lem f vs e = ap variables_by e
 
--- a variable of a used rank
-ranked : (vs : List Variable) (r : ℕ) → some (λ (v : Variable). eqb v.rank r) vs ≡ true →
-    (i : ℕ) × ((v : Variable) × ((at vs i ≡ Some v) × ((v.rank ≡ r) × (sign_of_rank (rank_of vs r) ≡ v.sign))))
-ranked [] r h = absurd (false≢true h)
-ranked (v ∷ vs) r h = go (ranked vs r) (eqb v.rank r) refl h
+-- a used rank has the sign that is kept for it
+ranked : (ss : List (Option KeptSign)) (vs : List Variable) (r : ℕ) → Every (SignKept ss) vs → some (λ (v : Variable). eqb v.rank r) vs ≡ true →
+    (s : KeptSign) × (get_or ss r None ≡ Some s) × (sign_of_rank (rank_of vs r) ≡ kept_sign s)
+ranked ss [] r k h = absurd (false≢true h)
+ranked ss (v ∷ vs) r k h = go (ranked ss vs r k.1) (eqb v.rank r) refl h
   where
-    go : (some (λ (w : Variable). eqb w.rank r) vs ≡ true → (i : ℕ) × ((w : Variable) × ((at vs i ≡ Some w) × ((w.rank ≡ r) × (sign_of_rank (rank_of vs r) ≡ w.sign))))) → (b : Bool) → eqb v.rank r ≡ b →
+    go : (some (λ (w : Variable). eqb w.rank r) vs ≡ true → (s : KeptSign) × (get_or ss r None ≡ Some s) × (sign_of_rank (rank_of vs r) ≡ kept_sign s)) → (b : Bool) → eqb v.rank r ≡ b →
         elim b [ true ↦ true | false ↦ some (λ (w : Variable). eqb w.rank r) vs ] ≡ true →
-        (i : ℕ) × ((w : Variable) × ((at (v ∷ vs) i ≡ Some w) × ((w.rank ≡ r) × (sign_of_rank (elim b [ true ↦ v ∷ rank_of vs r | false ↦ rank_of vs r ]) ≡ w.sign))))
-    go ih true e h = (0, (v, (refl, (eqb-true v.rank r e, refl))))
-    go ih false e h = let x = ih h in (suc x.0, (x.1.0, x.1.1))
+        (s : KeptSign) × (get_or ss r None ≡ Some s) × (sign_of_rank (elim b [ true ↦ v ∷ rank_of vs r | false ↦ rank_of vs r ]) ≡ kept_sign s)
+    go ih true e h = (k.0.0, ap (λ y. get_or ss y None) (sym (eqb-true v.rank r e)) ∙ k.0.1, sym k.0.2)
+    go ih false e h = ih h
 
-pub signed : (f : List ℕ) (vs : List Variable) (x : Variables) → Described f vs x → Signed vs x.entries.signs
-signed f vs x d =
-    record {
-      used = d.entered.used;
-      sign = λ r s l e. sign r s l e;
-      small = λ i v a. let k = d.entered.ranks i v a in omega (arith, d.entered.small i);
-    }
+pub signed : (f : List ℕ) (vs : List Variable) (x : Variables) → Described f vs x → Signed vs x.signs
+signed f vs x d = record { used = d.used; sign = λ r s l e. sign r s l e; small = ranks_small f (length vs) vs (listed x.entries) d.entries }
   where
-    sign : (r : ℕ) (s : KeptSign) → r < 32 → get_or x.entries.signs r None ≡ Some s → sign_of_rank (rank_of vs r) ≡ kept_sign s
+    sign : (r : ℕ) (s : KeptSign) → r < 32 → get_or x.signs r None ≡ Some s → sign_of_rank (rank_of vs r) ≡ kept_sign s
     sign r s l e =
-        let w = ranked vs r (sym (d.entered.used r l) ∙ ap is_some e) in
-        let m = d.entered.signs w.0 w.1.0 w.1.1.0 in
-        let k : get_or x.entries.signs r None ≡ Some m.0 = ap (λ y. get_or x.entries.signs y None) (sym w.1.1.1.0) ∙ m.1.0 in
-        let j : m.0 ≡ s = cc in
-        w.1.1.1.1 ∙ sym m.1.1 ∙ ap kept_sign j
+        let w = ranked x.signs vs r d.signs (sym (d.used r l) ∙ ap is_some e) in
+        let k : Some w.0 ≡ Some s = sym w.1 ∙ e in
+        let j : w.0 ≡ s = cc in
+        w.2 ∙ ap kept_sign j
 
 taken : (g : ℕ → Bool) (n k : ℕ) (xs : List Bool) → n ≤ length xs → ((j : ℕ) → get_or xs j false ≡ g (k + j)) → map truth (take n xs) ≡ map (λ j. truth (g j)) (from k n)
 taken g zero k xs l h = refl
@@ -69,16 +68,12 @@ taken g (suc n) k (x ∷ xs) l h =
     ap (λ y. truth y ∷ map truth (take n xs)) (h 0 ∙ ap g i) ∙
     ap (λ ys. truth (g k) ∷ ys) (taken g n (suc k) xs (omega arith) (λ j. let e : k + suc j ≡ suc k + j = omega arith in h (suc j) ∙ ap g e))
 
-from_long : (k n : ℕ) → length (from k n) ≡ n
-from_long k zero = refl
-from_long k (suc n) = ap suc (from_long (suc k) n)
-
 pub solves_long : (vs : List Variable) → length (solves vs) ≡ length vs
 solves_long vs = length-map (up_to (length vs)) _ ∙ from_long 0 (length vs)
 
 -- the truths found are those of the variables
 pub solution_bytes : (vs : List Variable) (b : Blocks) (ts : List Bool) → SolvedAlike vs b → length vs ≤ length ts →
-    assigned ts ≡ nested.solve order.truths (variable_body vs) (blocks_of vs b b.count) (λ _. false) → map truth (take (length vs) ts) ≡ solves vs
+    assigned ts ≡ nested.solve order.truths (variable_body vs) (blocks_of vs b (length (listed b.signs))) (λ _. false) → map truth (take (length vs) ts) ≡ solves vs
 solution_bytes vs b ts a l h =
     taken (nested.solve order.truths (variable_body vs) (map (rank_block vs) (used_ranks vs)) (λ _. false)) (length vs) 0 ts l
     (λ j. let e : 0 + j ≡ j = omega arith in ap (λ g. g j) (h ∙ sym (a (λ _. false))) ∙ ap (nested.solve order.truths (variable_body vs) (map (rank_block vs) (used_ranks vs)) (λ _. false)) (sym e))
@@ -111,17 +106,16 @@ pub bool_byte_truth : (b : Bool) → bool_byte b ≡ truth b
 bool_byte_truth true = refl
 bool_byte_truth false = refl
 
-pub none_assigned : (n : ℕ) → assigned (replicate n false) ≡ (λ _. false)
-none_assigned n = fun_ext (λ j. go n j)
-  where
-    go : (n j : ℕ) → get_or (replicate n false) j false ≡ false
-    go zero j = refl
-    go (suc n) zero = refl
-    go (suc n) (suc j) = go n j
+pub from_nothing : (vs ws : List Variable) (b : Blocks) (ss : List KeptSign) (ts : List Bool) (n : ℕ) → ws ≡ vs → ss ≡ listed b.signs →
+    assigned ts ≡ nested.solve order.truths (variable_body ws) (blocks_of ws b (length ss)) (assigned (replicate n false)) →
+    assigned ts ≡ nested.solve order.truths (variable_body vs) (blocks_of vs b (length (listed b.signs))) (λ _. false)
+from_nothing vs ws b ss ts n e z h =
+    h ∙ ap (λ (us : List Variable). nested.solve order.truths (variable_body us) (blocks_of us b (length ss)) (assigned (replicate n false))) e ∙
+    ap (λ (ss : List KeptSign). nested.solve order.truths (variable_body vs) (blocks_of vs b (length ss)) (assigned (replicate n false))) z ∙
+    ap (nested.solve order.truths (variable_body vs) (blocks_of vs b (length (listed b.signs)))) (fun_ext (alike_everywhere false n))
 
-pub from_nothing : (vs ws : List Variable) (b : Blocks) (ts : List Bool) (n : ℕ) → ws ≡ vs →
-    assigned ts ≡ nested.solve order.truths (variable_body ws) (blocks_of ws b b.count) (assigned (replicate n false)) →
-    assigned ts ≡ nested.solve order.truths (variable_body vs) (blocks_of vs b b.count) (λ _. false)
-from_nothing vs ws b ts n e h =
-    h ∙ ap (λ (us : List Variable). nested.solve order.truths (variable_body us) (blocks_of us b b.count) (assigned (replicate n false))) e ∙
-    ap (nested.solve order.truths (variable_body vs) (blocks_of vs b b.count)) (none_assigned n)
+-- the first n, as a part of the truths
+pub front_part : (ts : List Bool) (before : List ℕ) (n : ℕ) → n ≤ length ts → map truth (take (n - 0) ts) ++ drop (length (take (n - 0) ts)) before ≡ map truth (take n ts) ++ drop n before
+front_part ts before n l =
+    let z : n - 0 ≡ n = omega arith in
+    ap (λ m. map truth (take m ts) ++ drop (length (take m ts)) before) z ∙ ap (λ m. map truth (take n ts) ++ drop m before) (length-take-le n ts l)

@@ -14,9 +14,10 @@ use Rattle.system.specs.declared.header.Sign.{Sign as KeptSign}
 use Rattle.system.specs.declared.header.Sign.TheVariants.{Least, Greatest}
 use Rattle.system.specs.Files.{kept_sign}
 use Rattle.boolean.specs.Ranked.{variable_body, in_block, block_at, blocks_below, moving, moves_to, Swept, members}
-use Rattle.boolean.proofs.Monotone.{variables_mono}
+use Rattle.theorems.proofs.Expands.{variables_mono}
 use Rattle.boolean.proofs.Rounds.{held, Round, round_start, round_below, round_next, round_end, solution_holds}
-use Rattle.boolean.proofs.Weights.{from_mem, lighter}
+use Rattle.theorems.proofs.Marks.{from_mem}
+use Rattle.boolean.proofs.Weights.{lighter}
 use Rattle.boolean.proofs.Merges.{in_below, block_enough, blocks_enough}
 use Rattle.boolean.proofs.Sweeping.{apart}
 

@@ -1,7 +1,6 @@
+pub mod Signs
 pub mod Parts
-pub mod Members
 pub mod Entering
-pub mod Monotone
 pub mod Rounds
 pub mod Weights
 pub mod Merges

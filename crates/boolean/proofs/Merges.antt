@@ -1,14 +1,20 @@
 -- Neighbouring ranks of one sign make one block.
-use Rattle.std.proofs.Common.{◌≡◌, ℕ, zero, suc, ◌+◌, ◌-◌, ◌<◌, ◌≤◌, Bool, true, false, ◌||◌, eqb, ◌≢◌, ◌⊎◌, List, [], ◌∷◌, map, length, get_or, set, Some, None, Option, sym, refl, ap, ◌∙◌, subst, ap₂, inl, inr, le_refl, add_comm, one-mul, add-one, arith, length-set, get_or-set_other, get_or-set_same, eq-eqb, ne_eqb}
+use Rattle.std.proofs.Common.{◌≡◌, Bor, ℕ, zero, suc, ◌+◌, ◌-◌, ◌<◌, ◌≤◌, Bool, true, false, ◌||◌, eqb, ◌≢◌, ◌⊎◌, List, [], ◌∷◌, ◌++◌, map, length, get_or, set, Some, None, Option, sym, refl, ap, ◌∙◌, subst, ap₂, inl, inr, le_refl, add_comm, one-mul, add-one, arith, length-append, length-set, get_or-set_other, get_or-set_same, eq-eqb, ne_eqb}
 use mathlib.Core.Bool.{false≢true}
+use Rattle.std.proofs.Math.Bool.{or-false}
+use Rattle.std.proofs.lemmas.List.{get_or_append_left, get_or_push}
 use native.Mathlib.Decide.{ℕ_discrete}
+use Rattle.std.specs.Option.{option_copied, option_eq}
+use Rattle.std.specs.List.{slice_get}
+use Rattle.rows.specs.declared.row.Row.{Row}
+use Rattle.rows.specs.Listed.{listed}
 use Rattle.definitions.specs.Lists.{at, keep, from, up_to, is_some}
-use Rattle.definitions.specs.Solution.{Sign, least, greatest, Block, edge}
+use Rattle.definitions.specs.Solution.{Sign, Block, edge}
 use Rattle.definitions.specs.Order.{Order, Monotone, Enough}
 use Rattle.definitions.specs.Order as order
 use Rattle.definitions.specs.Fits.{Every}
 use Rattle.definitions.specs.Nested.{solve}
-use Rattle.definitions.specs.Boolean.{Variable, has_rank, rank_block, rank_of, sign_of_rank, same_sign}
+use Rattle.definitions.specs.Boolean.{Variable, has_rank, rank_block, rank_of, sign_of_rank}
 use Rattle.fixpoint.specs.Laws.{join}
 use Rattle.fixpoint.proofs.Rounds.{after}
 use Rattle.fixpoint.proofs.Signs.{sign_more, op_mono}
@@ -18,8 +24,10 @@ use Rattle.system.specs.declared.header.Sign.TheVariants.{Least}
 use Rattle.system.specs.Files.{kept_sign}
 use Rattle.boolean.specs.declared.blocks.Blocks.{Blocks}
 use Rattle.boolean.specs.Ranked.{variable_body, Signed, in_block, block_at, blocks_below, used_by, Merged}
-use Rattle.boolean.proofs.Monotone.{variables_mono, rank_enough}
-use Rattle.boolean.proofs.Weights.{from_mem}
+use Rattle.theorems.proofs.Expands.{variables_mono}
+use Rattle.theorems.proofs.Enough.{rank_enough}
+use Rattle.theorems.proofs.Listing.{from_long}
+use Rattle.theorems.proofs.Marks.{from_mem}
 
 -- blocks of one sign and the same members are alike, whatever their rounds
 module _ {I V : Type 0} (O : Order V) (body : (I → V) → I → V) (m : Monotone O body) (bs : List (Block I)) where
@@ -48,10 +56,6 @@ in_below vs bs k j h = go (at vs j) refl h
     go None e h = absurd (false≢true h)
     go (Some v) e h = at_below vs j v e
 
-from_long : (k n : ℕ) → length (from k n) ≡ n
-from_long k zero = refl
-from_long k (suc n) = ap suc (from_long (suc k) n)
-
 pub block_enough : (vs : List Variable) (bs : List ℕ) (k : ℕ) (s : KeptSign) → Enough order.truths (block_at vs bs k s)
 block_enough vs bs k s =
     record {
@@ -63,6 +67,12 @@ block_enough vs bs k s =
 pub blocks_enough : (vs : List Variable) (bs : List ℕ) (ss : List KeptSign) (k : ℕ) → Every (Enough order.truths) (blocks_below vs bs ss k)
 blocks_enough vs bs ss zero = tt
 blocks_enough vs bs ss (suc k) = (block_enough vs bs k (get_or ss k Least), blocks_enough vs bs ss k)
+
+-- a further sign changes nothing below
+signs_same : (vs : List Variable) (ss : List KeptSign) (s : KeptSign) (cs : List ℕ) (k : ℕ) → k ≤ length ss → blocks_below vs cs (ss ++ (s ∷ [])) k ≡ blocks_below vs cs ss k
+signs_same vs ss s cs zero l = refl
+signs_same vs ss s cs (suc k) l =
+    ap₂ (λ (x : KeptSign) (c : List (Block ℕ)). block_at vs cs k x ∷ c) (get_or_append_left ss (s ∷ []) Least k (omega arith)) (signs_same vs ss s cs k (omega arith))
 
 -- the rank r comes to the block n
 module _ (vs : List Variable) (small : (i : ℕ) (v : Variable) → at vs i ≡ Some v → v.rank < 32) (bs : List ℕ) (r n : ℕ)
@@ -91,23 +101,13 @@ module _ (vs : List Variable) (small : (i : ℕ) (v : Variable) → at vs i ≡ 
 
   alone_at : ((x : ℕ) → x < 32 → get_or bs x 0 ≡ n → ⊥) → (j : ℕ) (o : Option Variable) → at vs j ≡ o → in_block o (set bs r n) n ≡ has_rank o r
   alone_at ne j None e = refl
-  alone_at ne j (Some v) e = joins_at (Some v) ∙ ap (λ x. eqb v.rank r || x) (ne_eqb (get_or bs v.rank 0) n (ne v.rank (small j v e))) ∙ or_none (eqb v.rank r)
-    where
-      or_none : (p : Bool) → (p || false) ≡ p
-      or_none true = refl
-      or_none false = refl
+  alone_at ne j (Some v) e = joins_at (Some v) ∙ ap (λ x. eqb v.rank r || x) (ne_eqb (get_or bs v.rank 0) n (ne v.rank (small j v e))) ∙ or-false (eqb v.rank r)
 
   pub below_same : (ss : List KeptSign) (k : ℕ) → k ≤ n → blocks_below vs (set bs r n) ss k ≡ blocks_below vs bs ss k
   below_same ss zero l = refl
   below_same ss (suc k) l =
       let h : (j : ℕ) → in_block (at vs j) (set bs r n) k ≡ in_block (at vs j) bs k = λ j. other_at k (λ z. absurd (omega arith)) (omega arith) (at vs j) in
       ap₂ (λ (b : Block ℕ) (c : List (Block ℕ)). b ∷ c) (λ i. record { sign = kept_sign (get_or ss k Least); inside = λ j. h j i; rounds = length vs }) (below_same ss k (omega arith))
-
-  pub signs_same : (ss : List KeptSign) (s : KeptSign) (cs : List ℕ) (k : ℕ) → k ≤ n → blocks_below vs cs (set ss n s) k ≡ blocks_below vs cs ss k
-  signs_same ss s cs zero l = refl
-  signs_same ss s cs (suc k) l =
-      let ne : k ≢ n = omega arith in
-      ap₂ (λ (x : KeptSign) (c : List (Block ℕ)). block_at vs cs k x ∷ c) (get_or-set_other ss n k s Least ne) (signs_same ss s cs k (omega arith))
 
   module _ (ss : List KeptSign) (s : KeptSign) (signed : sign_of_rank (rank_of vs r) ≡ kept_sign s) (R : List (Block ℕ)) where
     -- in the outermost block so far
@@ -126,18 +126,18 @@ module _ (vs : List Variable) (small : (i : ℕ) (v : Variable) → at vs i ≡ 
         ap (λ c. solve O (variable_body vs) (block_at vs (set bs r n) n (get_or ss n Least) ∷ c) e) (sym (below_same ss n (le_refl n)))
 
     -- in a block of its own
-    pub rank_opens : length ss ≡ 32 → ((x : ℕ) → x < 32 → get_or bs x 0 ≡ n → ⊥) →
+    pub rank_opens : length ss ≡ n → ((x : ℕ) → x < 32 → get_or bs x 0 ≡ n → ⊥) →
         ((e : ℕ → Bool) → solve order.truths (variable_body vs) R e ≡ solve order.truths (variable_body vs) (blocks_below vs bs ss n) e) →
-        (e : ℕ → Bool) → solve order.truths (variable_body vs) (rank_block vs r ∷ R) e ≡ solve order.truths (variable_body vs) (blocks_below vs (set bs r n) (set ss n s) (suc n)) e
-    rank_opens ls ne ih e =
+        (e : ℕ → Bool) → solve order.truths (variable_body vs) (rank_block vs r ∷ R) e ≡ solve order.truths (variable_body vs) (blocks_below vs (set bs r n) (ss ++ (s ∷ [])) (suc n)) e
+    rank_opens ln ne ih e =
         let O = order.truths in
         let m = variables_mono vs in
-        let here : get_or (set ss n s) n Least ≡ s = get_or-set_same ss n s Least (omega arith) in
+        let here : get_or (ss ++ (s ∷ [])) n Least ≡ s = get_or_push ss s Least n ln in
         behind O (variable_body vs) (rank_block vs r ∷ []) R (blocks_below vs bs ss n) ih e ∙
         block_same O (variable_body vs) m (blocks_below vs bs ss n) (rank_block vs r) (block_at vs (set bs r n) n s) signed (λ j. sym (alone_at ne j (at vs j) refl))
         (rank_enough vs r) (block_enough vs (set bs r n) n s) e ∙
         ap₂ (λ (x : KeptSign) (c : List (Block ℕ)). solve O (variable_body vs) (block_at vs (set bs r n) n x ∷ c) e) (sym here)
-        (sym (signs_same ss s (set bs r n) n (le_refl n) ∙ below_same ss n (le_refl n)))
+        (sym (signs_same vs ss s (set bs r n) n (omega arith) ∙ below_same ss n (le_refl n)))
 
 ranks_used : (vs : List Variable) (r k : ℕ) (b : Bool) → k + r ≡ 31 → used_by vs r ≡ b →
     map (rank_block vs) (keep (used_by vs) (from (32 - (k + 1)) (k + 1))) ≡
@@ -156,7 +156,6 @@ module _ (ss : List (Option KeptSign)) (k r : ℕ) (all : Blocks) (g : Merged ss
   pub rank_unused : get_or ss r None ≡ None → Merged ss (k + 1) all
   rank_unused e =
       record {
-        long_signs = g.long_signs;
         long_ranks = g.long_ranks;
         few = omega (arith, g.few);
         free = λ x l. g.free x (omega arith);
@@ -164,75 +163,78 @@ module _ (ss : List (Option KeptSign)) (k r : ℕ) (all : Blocks) (g : Merged ss
         alike = λ vs d f. ap (λ z. solve order.truths (variable_body vs) z f) (ranks_used vs r k false h (used_by_lem vs d None e)) ∙ g.alike vs d f;
       }
 
-  module _ (s : KeptSign) (e : get_or ss r None ≡ Some s) where
+  module _ (s : KeptSign) (e : get_or ss r None ≡ Some s) (n : ℕ) where
     free_here : get_or all.ranks r 0 ≡ 32
     free_here = g.free r (omega arith)
 
-    pub rank_same : (n : ℕ) → all.count ≡ suc n → kept_sign (get_or all.signs n Least) ≡ kept_sign s →
-        Merged ss (k + 1) (record { count = all.count; signs = all.signs; ranks = set all.ranks r n })
-    rank_same n c p =
+    pub rank_same : length (listed all.signs) ≡ suc n → get_or (listed all.signs) n Least ≡ s → (bs : List ℕ) → bs ≡ set all.ranks r n → Merged ss (k + 1) (record { signs = all.signs; ranks = bs })
+    rank_same c p bs eb =
         let n32 : n < 32 = omega (arith, g.few) in
-        record {
-          long_signs = g.long_signs;
+        subst (λ bs. Merged ss (k + 1) (record { signs = all.signs; ranks = bs })) (sym eb)
+        (record {
           long_ranks = length-set all.ranks r n ∙ g.long_ranks;
           few = omega (arith, g.few);
           free = λ x l. let ne : x ≢ r = omega arith in rw get_or-set_other (g.free x (omega arith));
           placed = λ x l. go x l (ℕ_discrete x r);
           alike = λ vs d f.
               ap (λ z. solve order.truths (variable_body vs) z f) (ranks_used vs r k true h (used_by_lem vs d (Some s) e)) ∙
-              rank_joins vs d.small all.ranks r n g.long_ranks (omega arith) free_here n32 all.signs s (d.sign r s (omega arith) e)
-              (map (rank_block vs) (keep (used_by vs) (from (32 - k) k))) p
-              (λ f. g.alike vs d f ∙ ap (λ z. solve order.truths (variable_body vs) (blocks_below vs all.ranks all.signs z) f) c) f ∙
-              ap (λ z. solve order.truths (variable_body vs) (blocks_below vs (set all.ranks r n) all.signs z) f) (sym c);
-        }
+              rank_joins vs d.small all.ranks r n g.long_ranks (omega arith) free_here n32 (listed all.signs) s (d.sign r s (omega arith) e)
+              (map (rank_block vs) (keep (used_by vs) (from (32 - k) k))) (ap kept_sign p)
+              (λ f. g.alike vs d f ∙ ap (λ z. solve order.truths (variable_body vs) (blocks_below vs all.ranks (listed all.signs) z) f) c) f ∙
+              ap (λ z. solve order.truths (variable_body vs) (blocks_below vs (set all.ranks r n) (listed all.signs) z) f) (sym c);
+        })
       where
-        go : (x : ℕ) → x < 32 → Dec (x ≡ r) → (get_or (set all.ranks r n) x 0 ≡ 32) ⊎ (get_or (set all.ranks r n) x 0 < all.count)
+        go : (x : ℕ) → x < 32 → Dec (x ≡ r) → (get_or (set all.ranks r n) x 0 ≡ 32) ⊎ (get_or (set all.ranks r n) x 0 < length (listed all.signs))
         go x l (yes z) = let q : get_or (set all.ranks r n) x 0 ≡ n = ap (λ y. get_or (set all.ranks r n) y 0) z ∙ get_or-set_same all.ranks r n 0 (omega (arith, g.long_ranks)) in inr (omega arith)
-        go x l (no z) = subst (λ y. (y ≡ 32) ⊎ (y < all.count)) (sym (get_or-set_other all.ranks r x n 0 z)) (g.placed x l)
+        go x l (no z) = subst (λ y. (y ≡ 32) ⊎ (y < length (listed all.signs))) (sym (get_or-set_other all.ranks r x n 0 z)) (g.placed x l)
 
-    pub rank_new : Merged ss (k + 1) (record { count = all.count + 1; signs = set all.signs all.count s; ranks = set all.ranks r all.count })
-    rank_new =
-        let n = all.count in
+    pub rank_new : length (listed all.signs) ≡ n → (y : Row KeptSign 32) → listed y ≡ listed all.signs ++ (s ∷ []) → (bs : List ℕ) → bs ≡ set all.ranks r n → Merged ss (k + 1) (record { signs = y; ranks = bs })
+    rank_new c y ey bs eb =
         let n32 : n < 32 = omega (arith, g.few) in
-        record {
-          long_signs = length-set all.signs n s ∙ g.long_signs;
+        let long : length (listed y) ≡ suc n = ap length ey ∙ length-append (listed all.signs) (s ∷ []) ∙ ap (λ z. z + 1) c ∙ add-one n in
+        subst (λ bs. Merged ss (k + 1) (record { signs = y; ranks = bs })) (sym eb)
+        (record {
           long_ranks = length-set all.ranks r n ∙ g.long_ranks;
           few = omega (arith, g.few);
           free = λ x l. let ne : x ≢ r = omega arith in rw get_or-set_other (g.free x (omega arith));
-          placed = λ x l. go x l (ℕ_discrete x r) (g.placed x l);
+          placed = λ x l. go long x l (ℕ_discrete x r) (g.placed x l);
           alike = λ vs d f.
               ap (λ z. solve order.truths (variable_body vs) z f) (ranks_used vs r k true h (used_by_lem vs d (Some s) e)) ∙
-              rank_opens vs d.small all.ranks r n g.long_ranks (omega arith) free_here n32 all.signs s (d.sign r s (omega arith) e)
-              (map (rank_block vs) (keep (used_by vs) (from (32 - k) k))) g.long_signs (λ x l q. apart x l q (g.placed x l)) (g.alike vs d) f ∙
-              ap (λ z. solve order.truths (variable_body vs) (blocks_below vs (set all.ranks r n) (set all.signs n s) z) f) (sym (add-one n));
-        }
+              rank_opens vs d.small all.ranks r n g.long_ranks (omega arith) free_here n32 (listed all.signs) s (d.sign r s (omega arith) e)
+              (map (rank_block vs) (keep (used_by vs) (from (32 - k) k))) c (λ x l q. apart x l q (g.placed x l))
+              (λ f. g.alike vs d f ∙ ap (λ z. solve order.truths (variable_body vs) (blocks_below vs all.ranks (listed all.signs) z) f) c) f ∙
+              ap₂ (λ zs z. solve order.truths (variable_body vs) (blocks_below vs (set all.ranks r n) zs z) f) (sym ey) (sym long);
+        })
       where
-        apart : (x : ℕ) → x < 32 → get_or all.ranks x 0 ≡ all.count → (get_or all.ranks x 0 ≡ 32) ⊎ (get_or all.ranks x 0 < all.count) → ⊥
+        apart : (x : ℕ) → x < 32 → get_or all.ranks x 0 ≡ n → (get_or all.ranks x 0 ≡ 32) ⊎ (get_or all.ranks x 0 < length (listed all.signs)) → ⊥
         apart x l q (inl z) = absurd (omega (arith, g.few))
         apart x l q (inr z) = absurd (omega arith)
 
-        go : (x : ℕ) → x < 32 → Dec (x ≡ r) → (get_or all.ranks x 0 ≡ 32) ⊎ (get_or all.ranks x 0 < all.count) →
-            (get_or (set all.ranks r all.count) x 0 ≡ 32) ⊎ (get_or (set all.ranks r all.count) x 0 < all.count + 1)
-        go x l (yes z) o = let q : get_or (set all.ranks r all.count) x 0 ≡ all.count = ap (λ y. get_or (set all.ranks r all.count) y 0) z ∙ get_or-set_same all.ranks r all.count 0 (omega (arith, g.long_ranks)) in inr (omega arith)
-        go x l (no z) (inl o) = inl (get_or-set_other all.ranks r x all.count 0 z ∙ o)
-        go x l (no z) (inr o) = let q = get_or-set_other all.ranks r x all.count 0 z in inr (omega arith)
+        go : length (listed y) ≡ suc n → (x : ℕ) → x < 32 → Dec (x ≡ r) → (get_or all.ranks x 0 ≡ 32) ⊎ (get_or all.ranks x 0 < length (listed all.signs)) →
+            (get_or (set all.ranks r n) x 0 ≡ 32) ⊎ (get_or (set all.ranks r n) x 0 < length (listed y))
+        go j x l (yes z) o = let q : get_or (set all.ranks r n) x 0 ≡ n = ap (λ y. get_or (set all.ranks r n) y 0) z ∙ get_or-set_same all.ranks r n 0 (omega (arith, g.long_ranks)) in inr (omega arith)
+        go j x l (no z) (inl o) = inl (get_or-set_other all.ranks r x n 0 z ∙ o)
+        go j x l (no z) (inr o) = let q = get_or-set_other all.ranks r x n 0 z in inr (omega arith)
 
-pub merged_none : (ss : List (Option KeptSign)) (all : Blocks) → length all.signs ≡ 32 → length all.ranks ≡ 32 → all.count ≡ 0 → ((r : ℕ) → r < 32 → get_or all.ranks r 0 ≡ 32) → Merged ss 0 all
-merged_none ss all ls lr c h =
+-- the last of the signs, where it is the sign behind b
+pub outermost : {E : Bor KeptSign → Bor KeptSign → Bool} → ((x y : Bor KeptSign) → E x y ≡ true → x.now ≡ y.now) → (ss : List KeptSign) (o : Option (Bor KeptSign)) (b : Bor KeptSign) →
+    option_copied o ≡ slice_get ss (length ss - 1) → option_eq E o (Some b) ≡ true → (length ss ≡ suc (length ss - 1)) × (get_or ss (length ss - 1) Least ≡ b.now)
+outermost h ss None b e k = absurd (false≢true k)
+outermost h ss (Some a) b e k =
+    let r = found ss (length ss - 1) a.now (sym e) in
+    (omega (arith, r.0), r.1 ∙ h a b k)
+  where
+    found : (ss : List KeptSign) (i : ℕ) (s : KeptSign) → slice_get ss i ≡ Some s → (i < length ss) × (get_or ss i Least ≡ s)
+    found [] i s e = let z : ◌≡◌ {A = ℕ} 0 1 = cc in absurd (omega arith)
+    found (x ∷ ss) zero s e = let j : x ≡ s = cc in (omega arith, j)
+    found (x ∷ ss) (suc i) s e = let r = found ss i s e in (omega (arith, r.0), r.1)
+
+pub merged_none : (ss : List (Option KeptSign)) (all : Blocks) → length all.ranks ≡ 32 → listed all.signs ≡ [] → ((r : ℕ) → r < 32 → get_or all.ranks r 0 ≡ 32) → Merged ss 0 all
+merged_none ss all lr c h =
     record {
-      long_signs = ls;
       long_ranks = lr;
-      few = omega arith;
+      few = let z : length (listed all.signs) ≡ 0 = ap length c in omega arith;
       free = λ r l. h r (omega arith);
       placed = λ r l. inl (h r l);
-      alike = λ vs d e. ap (λ z. solve order.truths (variable_body vs) (blocks_below vs all.ranks all.signs z) e) (sym c);
+      alike = λ vs d e. ap (λ (zs : List KeptSign). solve order.truths (variable_body vs) (blocks_below vs all.ranks zs (length zs)) e) (sym c);
     }
-
-pub same_true : (g h : KeptSign) (b : Bool) → b ≡ same_sign (kept_sign g) (kept_sign h) → b ≡ true → kept_sign g ≡ kept_sign h
-same_true g h b e t = go (kept_sign g) (kept_sign h) (sym e ∙ t)
-  where
-    go : (x y : Sign) → same_sign x y ≡ true → x ≡ y
-    go least least p = refl
-    go least greatest p = absurd (false≢true p)
-    go greatest least p = absurd (false≢true p)
-    go greatest greatest p = refl

@@ -1,7 +1,10 @@
 -- One sweep over a block, and its start.
-use Rattle.std.proofs.Common.{◌≡◌, ℕ, zero, suc, ◌+◌, ◌<◌, ◌≤◌, Bool, true, false, not, ◌||◌, eqb, List, [], ◌∷◌, length, get_or, set, Some, None, Option, sym, refl, ap, ◌∙◌, subst, true≢false, arith, get_or-set_other, get_or-set_same, ne_eqb, eqb-true}
+use Rattle.std.proofs.Common.{◌≡◌, ℕ, zero, suc, ◌+◌, ◌<◌, ◌≤◌, Bool, true, false, ◌||◌, eqb, List, [], ◌∷◌, length, get_or, set, take, Some, None, Option, sym, refl, ap, ◌∙◌, subst, true≢false, arith, get_or-set_other, get_or-set_same, ne_eqb, eqb-true}
+use Rattle.std.proofs.Math.Logic.{∥∥₁_elim}
+use Rattle.std.proofs.Math.Nat.{ℕ_set}
+use Rattle.std.proofs.Math.Bool.{Bool-set}
 use mathlib.Core.Path.{fun_ext}
-use mathlib.Core.Bool.{beq, false≢true}
+use mathlib.Core.Bool.{false≢true}
 use native.Mathlib.Decide.{ℕ_discrete, dec_lt}
 use Rattle.definitions.specs.Lists.{at, up_to}
 use Rattle.definitions.specs.Solution.{Block, put}
@@ -9,18 +12,24 @@ use Rattle.definitions.specs.Order.{Order, Le, dual, Below, Monotone}
 use Rattle.definitions.specs.Order as order
 use Rattle.faults.specs.declared.Reason.{Reason}
 use Rattle.definitions.specs.Reading.{next, stop}
-use Rattle.definitions.specs.Boolean.{Variable, said, body_at, read_token}
+use Rattle.definitions.specs.Boolean.{Variable, said, body_at}
 use Rattle.fixpoint.specs.Laws.{in_blocks}
 use Rattle.fixpoint.proofs.Rounds.{total, antisym, cond_true, cond_false}
 use Rattle.fixpoint.proofs.Signs.{mono_toward}
 use Rattle.system.specs.declared.header.Sign.{Sign as KeptSign}
 use Rattle.system.specs.declared.header.Sign.TheVariants.{Least, Greatest}
 use Rattle.system.specs.Files.{kept_sign}
+use Rattle.boolean.specs.declared.entries.Entry.{Entry}
 use Rattle.boolean.specs.declared.entries.Variables.{Variables}
-use Rattle.boolean.specs.Steps.{assigned, mapped}
-use Rattle.boolean.specs.Files.{Described}
-use Rattle.boolean.specs.Ranked.{variable_body, in_block, blocks_below, moving, moves_to, Visited, Swept, members}
-use Rattle.boolean.proofs.Weights.{from_mem, lighter}
+use Rattle.boolean.specs.Steps.{assigned, mapped, read_said}
+use Rattle.boolean.specs.Files.{Kept, Described}
+use Rattle.rows.specs.Listed.{listed}
+use Rattle.boolean.specs.declared.solver.Solver.{Solver}
+use Rattle.boolean.specs.Solvers.{variables, body, inside}
+use Rattle.boolean.proofs.Entering.{all_kept_long, kept_at}
+use Rattle.boolean.specs.Ranked.{in_block, blocks_below, moving, moves_to, Visited, Swept, members}
+use Rattle.theorems.proofs.Marks.{from_mem}
+use Rattle.boolean.proofs.Weights.{lighter}
 use Rattle.boolean.proofs.Merges.{in_below}
 
 pub moves_le : (s : KeptSign) (a b : Bool) → (a ≡ moves_to s → b ≡ moves_to s) → Le (moving s) a b
@@ -37,18 +46,6 @@ le_moves Greatest a false h e = refl
 le_moves Greatest true true h e = e
 le_moves Greatest false true h e = absurd (false≢true h)
 
-or_left_false : (p q : Bool) → (p || q) ≡ false → p ≡ false
-or_left_false true q h = h
-or_left_false false q h = refl
-
-or_none : (p : Bool) → (p || false) ≡ p
-or_none true = refl
-or_none false = refl
-
-or_all : (p : Bool) → (p || true) ≡ true
-or_all true = refl
-or_all false = refl
-
 module _ (s : KeptSign) (body : (ℕ → Bool) → ℕ → Bool) (inside : ℕ → Bool) (h : ℕ → Bool) where
   pub swept_start : (n : ℕ) → ((x : ℕ) → inside x ≡ true → x < n) → Swept s body inside n h h false
   swept_start n k =
@@ -61,15 +58,15 @@ module _ (s : KeptSign) (body : (ℕ → Bool) → ℕ → Bool) (inside : ℕ �
       }
 
   module _ (m : Monotone order.truths body) (v : ℕ) (ts : List Bool) (c : Bool) (w : Swept s body inside (suc v) h (assigned ts) c) where
-    pub swept_still : (ts' : List Bool) → Visited (moves_to s) body inside v ts ts' false → Swept s body inside v h (assigned ts') (c || false)
+    pub swept_still : (ts' : List Bool) → Visited (moves_to s) body inside v ts ts' false → Swept s body inside v h (assigned ts') c
     swept_still ts' (same, rest) =
-        subst (λ z. Swept s body inside v h (assigned z) (c || false)) (sym same)
+        subst (λ z. Swept s body inside v h (assigned z) c) (sym same)
         (record {
           outside = w.outside;
           moves = w.moves;
           sound = w.sound;
-          rests = λ e. let r = w.rests (or_left_false c false e) in (r.0, λ x l p. go r x l p (ℕ_discrete x v));
-          changes = λ e. w.changes (sym (or_none c) ∙ e);
+          rests = λ e. let r = w.rests e in (r.0, λ x l p. go r x l p (ℕ_discrete x v));
+          changes = w.changes;
         })
       where
         go : (assigned ts ≡ h) × ((x : ℕ) → suc v ≤ x → inside x ≡ true → Le (moving s) (body h x) (h x)) → (x : ℕ) → v ≤ x → inside x ≡ true → Dec (x ≡ v) → Le (moving s) (body h x) (h x)
@@ -78,14 +75,14 @@ module _ (s : KeptSign) (body : (ℕ → Bool) → ℕ → Bool) (inside : ℕ �
             (subst (λ (f : ℕ → Bool). Le (moving s) (body f v) (f v)) r.0 (moves_le s (body (assigned ts) v) (assigned ts v) (rest (ap inside (sym z) ∙ p))))
         go r x l p (no z) = r.1 x (omega arith) p
 
-    pub swept_moved : v < length ts → (ts' : List Bool) → Visited (moves_to s) body inside v ts ts' true → Swept s body inside v h (assigned ts') (c || true)
+    pub swept_moved : v < length ts → (ts' : List Bool) → Visited (moves_to s) body inside v ts ts' true → Swept s body inside v h (assigned ts') true
     swept_moved l ts' (put, (is-in, (said, new))) =
-        subst (λ z. Swept s body inside v h (assigned z) (c || true)) (sym put)
+        subst (λ z. Swept s body inside v h (assigned z) true) (sym put)
         (record {
           outside = λ x p. other x (λ z. true≢false (sym is-in ∙ ap inside (sym z) ∙ p)) ∙ w.outside x p;
           moves = λ x. up x (ℕ_discrete x v);
           sound = λ g p q. below g p q;
-          rests = λ e. absurd (true≢false (sym (or_all c) ∙ e));
+          rests = λ e. absurd (true≢false e);
           changes = λ e. (v, (is-in, λ z. new (le_moves s (h v) (assigned ts v) (w.moves v) (z ∙ here))));
         })
       where
@@ -111,20 +108,6 @@ module _ (s : KeptSign) (body : (ℕ → Bool) → ℕ → Bool) (inside : ℕ �
                 (moves_le s (assigned (set ts v (moves_to s)) v) (g v) (λ _. le_moves s (body g v) (g v) (q v is-in)
                 (le_moves s (body (assigned ts) v) (body g v) (mono_toward (kept_sign s) order.truths body m (assigned ts) g under v) said)))
             go (no z) = subst (λ y. Le (moving s) y (g x)) (sym (other x z)) (under x)
-
--- membership, by the entries
-pub belongs_told : (f : List ℕ) (vs : List Variable) (x : Variables) (bs : List ℕ) (k v : ℕ) → Described f vs x → v < x.count →
-    eqb (get_or bs (get_or x.entries.ranks v 0) 0) k ≡ in_block (at vs v) bs k
-belongs_told f vs x bs k v d l = go (at vs v) refl
-  where
-    here : (ws : List Variable) (j : ℕ) → j < length ws → at ws j ≡ None → ⊥
-    here [] j h e = absurd (omega arith)
-    here (w ∷ ws) zero h e = let z : ◌≡◌ {A = ℕ} 0 1 = cc in omega arith
-    here (w ∷ ws) (suc j) h e = here ws j (omega arith) e
-
-    go : (o : Option Variable) → at vs v ≡ o → eqb (get_or bs (get_or x.entries.ranks v 0) 0) k ≡ in_block o bs k
-    go None e = absurd (here vs v (omega (arith, d.count)) e)
-    go (Some w) e = ap (λ y. eqb (get_or bs y 0) k) (d.entered.ranks v w e)
 
 -- the blocks inside have other members
 pub apart : (vs : List Variable) (bs : List ℕ) (ss : List KeptSign) (k n j : ℕ) → n ≤ k → in_block (at vs j) bs k ≡ true → in_blocks (blocks_below vs bs ss n) j ≡ false
@@ -166,63 +149,56 @@ module _ (b : Block ℕ) (t : Bool) (h : ℕ → Bool) (i : ℕ) (ts : List Bool
       go x (yes l) = done x l
       go x (no l) = rest x (omega arith) ∙ sym (cond_false (b.inside x) t (h x) (in_no x l (b.inside x) refl))
 
-pub swept_next : (s : KeptSign) (body : (ℕ → Bool) → ℕ → Bool) (inside : ℕ → Bool) (h : ℕ → Bool) → Monotone order.truths body → (n v : ℕ) (ts ts' : List Bool) (c r d t : Bool) →
-    n ≡ suc v → t ≡ moves_to s → d ≡ (c || r) → v < length ts → Swept s body inside n h (assigned ts) c → Visited t body inside v ts ts' r → Swept s body inside v h (assigned ts') d
-swept_next s body inside h m n v ts ts' c r d t en et ed l w z =
-    subst (Swept s body inside v h (assigned ts')) (sym ed)
-    (go r (subst (λ x. Visited x body inside v ts ts' r) et z) (subst (λ (x : ℕ). Swept s body inside x h (assigned ts) c) en w))
+-- a variable of what is being solved, by its entry
+module _ (s : Solver) where
+  pub count_told : length (listed s.variables.now.entries) ≡ length (variables s)
+  count_told = ∥∥₁_elim s.described (ℕ_set _ _) (λ d. all_kept_long s.file.now (length (variables s)) (variables s) (listed s.variables.now.entries) d.entries)
+
+  module _ (v : ℕ) (e : Entry) (es : List Entry) (same : es ≡ listed s.variables.now.entries) (is : e ≡ get_or es v e) (l : v < length es) where
+    here : Described s.file.now (variables s) s.variables.now → (w : Variable) × (at (variables s) v ≡ Some w) × Kept s.file.now (length (variables s)) w e
+    here d =
+        let k = kept_at s.file.now (length (variables s)) (variables s) (listed s.variables.now.entries) d.entries v e (subst (λ es. v < length es) same l) in
+        (k.0, k.1, subst (Kept s.file.now (length (variables s)) k.0) (sym (is ∙ ap (λ es. get_or es v e) same)) k.2)
+
+    pub belongs_told : (k : ℕ) → eqb (get_or s.blocks.now.ranks e.rank 0) k ≡ inside s k v
+    belongs_told k =
+        ∥∥₁_elim s.described (Bool-set _ _)
+        (λ d. ap (λ y. eqb (get_or s.blocks.now.ranks y 0) k) (here d).2.rank ∙ ap (λ o. in_block o s.blocks.now.ranks k) (sym (here d).1))
+
+    module _ (h : ℕ → Bool) where
+      body_is : Described s.file.now (variables s) s.variables.now → (q : ℕ) × (read_said (length es) 8 h s.file.now e.body ≡ next (body s h v) q)
+      body_is d =
+          let b = (here d).2.body in
+          (b.0, ap (λ n. read_said n 8 h s.file.now e.body) (ap length same ∙ count_told) ∙ ap (mapped (λ p. said p h)) b.1 ∙ ap (λ o. next (body_at o h) b.0) (sym (here d).1))
+
+      pub body_told : (b : Bool) (u : ℕ) → next b u ≡ read_said (length es) 8 h s.file.now e.body → b ≡ body s h v
+      body_told b u z = ∥∥₁_elim s.described (Bool-set _ _) (λ d. let j : next b u ≡ next (body s h v) (body_is d).0 = z ∙ (body_is d).1 in cc)
+
+      pub body_reads : (r : Reason) (u : ℕ) → stop r u ≡ read_said (length es) 8 h s.file.now e.body → ⊥
+      body_reads r u z = ∥∥₁_elim s.described (λ x y. absurd x) (λ d. let j : stop r u ≡ next (body s h v) (body_is d).0 = z ∙ (body_is d).1 in let z : ◌≡◌ {A = ℕ} 0 1 = cc in omega arith)
+
+take_le : {A : Type 0} (n : ℕ) (xs : List A) → length (take n xs) ≤ n
+take_le zero [] = omega arith
+take_le zero (x ∷ xs) = omega arith
+take_le (suc n) [] = omega arith
+take_le (suc n) (x ∷ xs) = let l : length (take n xs) ≤ n = take_le n xs in omega arith
+
+pub few_entries : (x : Variables) → length (listed x.entries) ≤ 4096
+few_entries x = omega (arith, take_le x.entries.len x.entries.items, x.entries.within)
+
+pub swept_next : (s : KeptSign) (body : (ℕ → Bool) → ℕ → Bool) (inside : ℕ → Bool) (h : ℕ → Bool) → Monotone order.truths body → (n v : ℕ) (ts ts' : List Bool) (c r t : Bool) →
+    n ≡ suc v → t ≡ moves_to s → v < length ts → Swept s body inside n h (assigned ts) c → Visited t body inside v ts ts' r → Swept s body inside v h (assigned ts') (r || c)
+swept_next s body inside h m n v ts ts' c r t en et l w z =
+    go r (subst (λ x. Visited x body inside v ts ts' r) et z) (subst (λ (x : ℕ). Swept s body inside x h (assigned ts) c) en w)
   where
-    go : (r : Bool) → Visited (moves_to s) body inside v ts ts' r → Swept s body inside (suc v) h (assigned ts) c → Swept s body inside v h (assigned ts') (c || r)
+    go : (r : Bool) → Visited (moves_to s) body inside v ts ts' r → Swept s body inside (suc v) h (assigned ts) c → Swept s body inside v h (assigned ts') (r || c)
     go true z w = swept_moved s body inside h m v ts c w l ts' z
     go false z w = swept_still s body inside h m v ts c w ts' z
-
--- the body of a variable, by its entry
-module _ (f : List ℕ) (vs : List Variable) (x : Variables) (v : ℕ) (d : Described f vs x) (l : v < x.count) (h : ℕ → Bool) where
-  there : (ws : List Variable) (j : ℕ) → j < length ws → (w : Variable) × (at ws j ≡ Some w)
-  there [] j k = absurd (omega arith)
-  there (w ∷ ws) zero k = (w, refl)
-  there (w ∷ ws) (suc j) k = there ws j (omega arith)
-
-  body_is : (q : ℕ) × (mapped (λ p. said p h) (read_token x.count 8 f (get_or x.entries.bodies v 0)) ≡ next (variable_body vs h v) q)
-  body_is =
-      let w = there vs v (omega (arith, d.count)) in
-      let e = d.entered.bodies v w.0 w.1 in
-      (e.0, ap (mapped (λ p. said p h)) e.1 ∙ ap (λ o. next (body_at o h) e.0) (sym w.1))
-
-  pub body_told : (b : Bool) (u : ℕ) → next b u ≡ mapped (λ p. said p h) (read_token x.count 8 f (get_or x.entries.bodies v 0)) → b ≡ variable_body vs h v
-  body_told b u e = let k = body_is.1 in let j : next b u ≡ next (variable_body vs h v) body_is.0 = e ∙ k in cc
-
-  pub body_reads : (s : Reason) (u : ℕ) → stop s u ≡ mapped (λ p. said p h) (read_token x.count 8 f (get_or x.entries.bodies v 0)) → ⊥
-  body_reads s u e = let j : stop s u ≡ next (variable_body vs h v) body_is.0 = e ∙ body_is.1 in let z : ◌≡◌ {A = ℕ} 0 1 = cc in omega arith
 
 pub begun_is : (b : Block ℕ) (t : Bool) (h : ℕ → Bool) (i : ℕ) (us ts : List Bool) → us ≡ ts →
     ((x : ℕ) → x < i → assigned ts x ≡ put b (λ _. t) h x) × ((x : ℕ) → i ≤ x → assigned ts x ≡ h x) →
     ((x : ℕ) → x < i → assigned us x ≡ put b (λ _. t) h x) × ((x : ℕ) → i ≤ x → assigned us x ≡ h x)
 begun_is b t h i us ts e (p, q) = ((λ x l. ap (λ z. assigned z x) e ∙ p x l), λ x l. ap (λ z. assigned z x) e ∙ q x l)
-
-pub beq_true : (a b : Bool) → beq a b ≡ true → a ≡ b
-beq_true true true e = refl
-beq_true true false e = absurd (false≢true e)
-beq_true false true e = absurd (false≢true e)
-beq_true false false e = refl
-
-pub beq_false : (a b : Bool) → beq a b ≡ false → a ≡ b → ⊥
-beq_false true true e q = true≢false e
-beq_false true false e q = true≢false q
-beq_false false true e q = false≢true q
-beq_false false false e q = true≢false e
-
-pub not_beq : (a b : Bool) → not (beq a b) ≡ true → a ≡ b → ⊥
-not_beq true true e q = false≢true e
-not_beq true false e q = true≢false q
-not_beq false true e q = false≢true q
-not_beq false false e q = false≢true e
-
-pub not_not_beq : (a b : Bool) → not (beq a b) ≡ false → a ≡ b
-not_not_beq true true e = refl
-not_not_beq true false e = absurd (true≢false e)
-not_not_beq false true e = absurd (true≢false e)
-not_not_beq false false e = refl
 
 -- a further sweep
 module _ (s : KeptSign) (body : (ℕ → Bool) → ℕ → Bool) (inside : ℕ → Bool) (n : ℕ) (h f g : ℕ → Bool) (c : Bool) (w : Swept s body inside n h f c) where

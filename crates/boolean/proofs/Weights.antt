@@ -1,8 +1,8 @@
 -- The number of variables of a block that have not moved.
-use Rattle.std.proofs.Common.{◌≡◌, ℕ, zero, suc, ◌+◌, ◌<◌, ◌≤◌, Bool, true, false, List, [], ◌∷◌, sym, refl, ap, ◌∙◌, arith}
+use Rattle.std.proofs.Common.{◌≡◌, ◌+◌, ◌<◌, ◌≤◌, Bool, true, false, List, [], ◌∷◌, sym, refl, ap, ◌∙◌, arith}
 use mathlib.Core.List.{Memᴰ}
 use native.Mathlib.Decide.{dec_lt}
-use Rattle.definitions.specs.Lists.{keep, from}
+use Rattle.definitions.specs.Lists.{keep}
 use Rattle.definitions.specs.Order.{Order, dual, Below}
 use Rattle.fixpoint.proofs.Rounds.{total, total_same}
 
@@ -13,14 +13,6 @@ keep_mem p {x} h (Memᴰ.tail {x = y} {xs} m) = go (keep_mem p h m) (p y)
     go : Memᴰ x (keep p xs) → (b : Bool) → Memᴰ x (elim b [ true ↦ y ∷ keep p xs | false ↦ keep p xs ])
     go k true = Memᴰ.tail k
     go k false = k
-
-pub from_mem : (k n x : ℕ) → k ≤ x → x < k + n → Memᴰ x (from k n)
-from_mem k zero x l h = absurd (omega arith)
-from_mem k (suc n) x l h = go (dec_lt k x) (λ q. from_mem (suc k) n x (omega arith) (omega arith))
-  where
-    go : Dec (k < x) → (k < x → Memᴰ x (from (suc k) n)) → Memᴰ x (from k (suc n))
-    go (yes q) ih = Memᴰ.tail (ih q)
-    go (no q) ih = let e : x ≡ k = omega arith in Memᴰ.head e
 
 total_keep : {I V : Type 0} (O : Order V) (p : I → Bool) (l : List I) (f g : I → V) → ((x : I) → p x ≡ true → f x ≡ g x) → total O (keep p l) f ≡ total O (keep p l) g
 total_keep O p [] f g h = refl

@@ -7,6 +7,7 @@ use Rattle.definitions.specs.Order as order
 use Rattle.definitions.specs.Nested.{solve}
 use Rattle.definitions.specs.Reading.{Reading, got, bad}
 use Rattle.definitions.specs.Boolean.{Variable, body_at, rank_of, sign_of_rank, rank_block, used_ranks, boolean_reading}
+use Rattle.rows.specs.Listed.{listed}
 use Rattle.system.specs.declared.header.Sign.{Sign as KeptSign}
 use Rattle.system.specs.declared.header.Sign.TheVariants.{Least, Greatest}
 use Rattle.system.specs.Files.{kept_sign}
@@ -44,11 +45,11 @@ blocks_below vs bs ss zero = []
 blocks_below vs bs ss (suc k) = block_at vs bs k (slice_index_or ss k Least) ∷ blocks_below vs bs ss k
 
 abbrev pub blocks_of : List Variable → Blocks → ℕ → List (Block ℕ)
-blocks_of vs b k = blocks_below vs b.ranks b.signs k
+blocks_of vs b k = blocks_below vs b.ranks (listed b.signs) k
 
 -- the blocks have the solution that the ranks have
 abbrev pub SolvedAlike : List Variable → Blocks → Type 0
-SolvedAlike vs b = (e : ℕ → Bool) → solve order.truths (variable_body vs) (map (rank_block vs) (used_ranks vs)) e ≡ solve order.truths (variable_body vs) (blocks_of vs b b.count) e
+SolvedAlike vs b = (e : ℕ → Bool) → solve order.truths (variable_body vs) (map (rank_block vs) (used_ranks vs)) e ≡ solve order.truths (variable_body vs) (blocks_of vs b (length (listed b.signs))) e
 
 -- is a rank used
 abbrev pub used_by : List Variable → ℕ → Bool
@@ -56,13 +57,12 @@ used_by vs r = some (λ (v : Variable). nat_eq v.rank r) vs
 
 -- the ranks from 32 - k on have come to blocks
 pub record Merged (ss : List (Option KeptSign)) (k : ℕ) (all : Blocks) : Type 0 where
-  pub long_signs : length all.signs ≡ 32
   pub long_ranks : length all.ranks ≡ 32
-  pub few : all.count ≤ k
+  pub few : length (listed all.signs) ≤ k
   pub free : (r : ℕ) → r + k < 32 → slice_index all.ranks r ≡ 32
-  pub placed : (r : ℕ) → r < 32 → (slice_index all.ranks r ≡ 32) ⊎ (slice_index all.ranks r < all.count)
+  pub placed : (r : ℕ) → r < 32 → (slice_index all.ranks r ≡ 32) ⊎ (slice_index all.ranks r < length (listed all.signs))
   pub alike : (vs : List Variable) → Signed vs ss → (e : ℕ → Bool) →
-      solve order.truths (variable_body vs) (map (rank_block vs) (keep (used_by vs) (from (32 - k) k))) e ≡ solve order.truths (variable_body vs) (blocks_below vs all.ranks all.signs all.count) e
+      solve order.truths (variable_body vs) (map (rank_block vs) (keep (used_by vs) (from (32 - k) k))) e ≡ solve order.truths (variable_body vs) (blocks_of vs all (length (listed all.signs))) e
 
 -- the order in which the truths of a block move
 abbrev pub moving : KeptSign → Order Bool

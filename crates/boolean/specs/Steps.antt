@@ -1,8 +1,7 @@
--- What the answers on bodies say as steps.
-use Rattle.std.specs.Prelude.{ℕ, Bool, false, List, Ok, Err, Result, slice_index_or}
-use Rattle.faults.specs.declared.SolveFault.{SolveFault}
-use Rattle.definitions.specs.Reading.{Step, next, stop}
-use Rattle.boolean.specs.declared.token.Said.{Said}
+-- The truths of variables, and of a body where it is read.
+use Rattle.std.specs.Prelude.{ℕ, Bool, false, List, slice_index_or}
+use Rattle.definitions.specs.Reading.{Step, next, stop, Reader}
+use Rattle.definitions.specs.Boolean.{said, read_token}
 
 -- the truths of the variables as an assignment
 abbrev pub assigned : List Bool → ℕ → Bool
@@ -13,6 +12,6 @@ abbrev pub mapped : {X Y : Type 0} → (X → Y) → Step X → Step Y
 mapped g (next x q) = next (g x) q
 mapped g (stop r q) = stop r q
 
-abbrev pub told_said : Result Said SolveFault → Step Bool
-told_said (Ok s) = next s.truth s.next
-told_said (Err e) = stop e.reason e.place
+-- the truth of a body of depth at most d, over n variables with the truths h
+abbrev pub read_said : ℕ → ℕ → (ℕ → Bool) → Reader Bool
+read_said n d h f p = mapped (λ b. said b h) (read_token n d f p)

@@ -6,5 +6,6 @@ mod blocks;
 pub mod entries;
 mod merging;
 pub mod reading;
+mod solver;
 pub mod solving;
 mod token;

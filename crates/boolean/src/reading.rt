@@ -1,20 +1,20 @@
 //! Reading a Boolean file.
-ghost use Rattle.std.specs.Prelude.{◌≡◌, ℕ, ◌<◌, ◌≤◌, not, List, length};
-ghost use Rattle.faults.specs.declared.Reason.TheVariants.{NotEnded};
-ghost use Rattle.definitions.specs.Reading.{must, ending};
-ghost use Rattle.definitions.specs.ReadSystem.{sign_of};
-ghost use Rattle.definitions.specs.Boolean.{Variable};
+ghost use Rattle.std.specs.Prelude.{◌≡◌, ◌<◌, ◌≤◌, true, List, length, MatchOption};
+ghost use Rattle.rows.specs.Listed.{listed};
+ghost use Rattle.definitions.specs.ReadSystem.{sign_of as read_sign};
+ghost use Rattle.definitions.specs.Boolean.{Variable, same_sign};
 ghost use Rattle.system.specs.Files.{kept_sign};
-ghost use Rattle.boolean.specs.Files.{clashing, Entered, EntryTold, ListTold, BooleanTold};
+ghost use Rattle.boolean.specs.Files.{Entered, EntryTold, ListTold, BooleanTold};
 
-use crate::entries::{Entries, LONGEST_BOOLEAN, Listed, VARIABLES, Variables};
+use crate::entries::{Entry, LONGEST_BOOLEAN, VARIABLES, Variables};
 use crate::token::{BODY_DEPTH, read_body};
-use bits::BitReader;
-use faults::{Reason, SolveFault};
+use bits::Cursor;
+use faults::{Reason, SolveFault, Stop};
+use rows::Row;
 use system::header::Sign;
 
 fn sign_of(bit: u32) -> Sign
-    ensures { kept_sign result ≡ sign_of bit }
+    ensures { kept_sign result ≡ read_sign bit }
 {
     if bit == 0 {
         Sign::Least
@@ -25,127 +25,73 @@ fn sign_of(bit: u32) -> Sign
 
 // Whether the rank has the sign, or none yet.
 fn suits(known: Option<Sign>, sign: Sign) -> bool
-    ensures { result ≡ not (clashing known (kept_sign sign)) }
+    ensures { MatchOption known (result ≡ true) (λ s. result ≡ same_sign (kept_sign s) (kept_sign sign)) }
 {
-    match (known, sign) {
-        (None, _) => true,
-        (Some(Sign::Least), Sign::Least) => true,
-        (Some(Sign::Greatest), Sign::Greatest) => true,
-        _ => false,
+    match known {
+        None => true,
+        Some(known) => known == sign,
     }
 }
 
-// Reads the variable numbered i of `count` at the place, and tells the place behind it.
+// Reads one of `count` variables, and enters it behind the others.
 fn read_entry(
-    bytes: &[u8],
-    at: usize,
-    i: usize,
-    count: usize,
+    cursor: &mut Cursor,
+    count: u32,
     truths: &[bool],
-    entries: &mut Entries,
-) -> Result<usize, SolveFault>
-    requires small { length bytes.now ≤ 65536 }
+    variables: &mut Variables,
+) -> Result<(), Stop>
     requires room { count ≤ length truths.now }
-    requires few { i < 4096 }
-    ensures { (vs : List Variable) → Entered bytes.now count vs entries.old → length vs ≡ i → EntryTold bytes.now count vs at entries.new result }
+    requires few { length (listed variables.old.entries) < 4096 }
+    ensures told { (vs : List Variable) → Entered cursor.old.bytes.now count vs variables.old → EntryTold count vs cursor.old cursor.new variables.new result }
+    ensures same { cursor.new.bytes.now ≡ cursor.old.bytes.now }
 {
-    let mut reader = BitReader { bytes, at };
-    let Some(bit) = reader.next(1) else {
-        return Err(SolveFault {
-            reason: Reason::EndsInField,
-            place: at,
-        });
-    };
-    let place = reader.at;
-    let mut reader = BitReader { bytes, at: place };
-    let Some(rank) = reader.next(5) else {
-        return Err(SolveFault {
-            reason: Reason::EndsInField,
-            place,
-        });
-    };
-    let behind = reader.at;
-    let sign = sign_of(bit);
-    let known = entries.signs[rank as usize];
-    if !suits(known, sign) {
-        return Err(SolveFault {
+    let sign = sign_of(cursor.field(1)?);
+    let place = cursor.at;
+    let rank = cursor.field(5)?;
+    if !suits(variables.signs[rank as usize], sign) {
+        return Err(Stop {
             reason: Reason::RankOfBothSigns,
             place,
         });
     }
-    let body = read_body(bytes, behind, count, truths, BODY_DEPTH)?;
-    entries.signs[rank as usize] = Some(sign);
-    entries.ranks[i] = rank as u8;
-    entries.bodies[i] = behind;
-    Ok(body.next)
+    let body = cursor.at;
+    read_body(cursor, count, truths, BODY_DEPTH)?;
+    variables.signs[rank as usize] = Some(sign);
+    let rank = rank as u8;
+    variables.entries.push(Entry { rank, body }).unwrap();
+    Ok(())
 }
 
-fn read_entries(bytes: &[u8], at: usize, count: usize) -> Result<Listed, SolveFault>
-    requires small { length bytes.now ≤ 65536 }
+fn read_entries(cursor: &mut Cursor, count: u32) -> Result<Variables, Stop>
     requires few { count ≤ 4096 }
-    ensures { ListTold bytes.now count at result }
+    ensures told { ListTold count cursor.old cursor.new result }
+    ensures same { cursor.new.bytes.now ≡ cursor.old.bytes.now }
 {
     // Whether a body is read does not depend on the truths.
     let truths = [false; VARIABLES];
-    let mut entries = Entries {
-        ranks: [0; 4096],
-        bodies: [0; 4096],
+    let mut variables = Variables {
+        entries: Row::new(Entry { rank: 0, body: 0 }),
         signs: [None; 32],
     };
-    let mut next = at;
-    for i in 0..count {
-        next = read_entry(bytes, next, i, count, &truths, &mut entries)?;
+    for _ in 0..count {
+        read_entry(cursor, count, &truths, &mut variables)?;
     }
-    Ok(Listed { entries, next })
-}
-
-// Whether only zero bits follow the content, and no further byte.
-fn ends(bytes: &[u8], at: usize) -> bool
-    requires { length bytes.now ≤ 65536 }
-    ensures { must result NotEnded at bytes.now at ≡ ending bytes.now at }
-{
-    let total = 8 * bytes.len();
-    if at >= total {
-        return true;
-    }
-    if total - at > 7 {
-        return false;
-    }
-    let mut reader = BitReader { bytes, at };
-    if let Some(0) = reader.next((total - at) as u32) {
-        true
-    } else {
-        false
-    }
+    Ok(variables)
 }
 
 /// Reads a Boolean file.
 pub fn read_boolean(file: &[u8]) -> Result<Variables, SolveFault>
     ensures { BooleanTold file.now result }
 {
-    if file.len() == 0 || file.len() > LONGEST_BOOLEAN {
+    if file.is_empty() || file.len() > LONGEST_BOOLEAN {
         return Err(SolveFault {
             reason: Reason::BadLength,
             place: 0,
         });
     }
-    let mut reader = BitReader { bytes: file, at: 0 };
-    let Some(less) = reader.next(12) else {
-        return Err(SolveFault {
-            reason: Reason::EndsInField,
-            place: 0,
-        });
-    };
-    let count = less as usize + 1;
-    let listed = read_entries(file, reader.at, count)?;
-    if !ends(file, listed.next) {
-        return Err(SolveFault {
-            reason: Reason::NotEnded,
-            place: listed.next,
-        });
-    }
-    Ok(Variables {
-        count,
-        entries: listed.entries,
-    })
+    let mut cursor = Cursor { bytes: file, at: 0 };
+    let count = cursor.field(12)? + 1;
+    let variables = read_entries(&mut cursor, count)?;
+    cursor.end()?;
+    Ok(variables)
 }

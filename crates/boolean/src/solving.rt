@@ -1,22 +1,22 @@
 //! Solving a Boolean file: the nested least and greatest solution, block by block.
 ghost use Rattle.std.specs.Prelude.{◌≡◌, ℕ, ◌<◌, ◌≤◌, Bool, true, false, List, ◌++◌, map, length, take as front, drop, ◌==◌, slice_index, slice_index_or};
-ghost use Rattle.definitions.specs.Lists.{at as member_at};
+ghost use Rattle.rows.specs.Listed.{listed};
 ghost use Rattle.definitions.specs.Algebras.{truth as byte_of};
 ghost use Rattle.definitions.specs.Solution.{put, edge};
 ghost use Rattle.definitions.specs.Order.{truths as order};
 ghost use Rattle.definitions.specs.Nested.{solve as solution};
 ghost use Rattle.definitions.specs.Calls.{Solving};
-ghost use Rattle.system.specs.declared.header.Sign.TheVariants.{Least};
 ghost use Rattle.system.specs.Files.{kept_sign};
 ghost use Rattle.boolean.specs.Steps.{assigned};
-ghost use Rattle.boolean.specs.Files.{Described};
-ghost use Rattle.boolean.specs.Ranked.{variables_of, variable_body, in_block, block_at, blocks_of, moves_to, Visited, Swept};
+ghost use Rattle.boolean.specs.Ranked.{moves_to, Visited, Swept};
+ghost use Rattle.boolean.specs.Solvers.{sign, body, inside, block, blocks_below};
 
-use crate::blocks::Blocks;
-use crate::entries::{VARIABLES, Variables};
+use crate::entries::{Entry, VARIABLES};
 use crate::merging::blocks_of;
 use crate::reading::read_boolean;
-use crate::token::{BODY_DEPTH, joined, read_body};
+use crate::solver::Solver;
+use crate::token::{BODY_DEPTH, read_body};
+use bits::Cursor;
 use faults::{Reason, SolveFault};
 use system::header::Sign;
 
@@ -24,153 +24,111 @@ use system::header::Sign;
 fn moves_to(sign: Sign) -> bool
     ensures { result ≡ moves_to sign }
 {
-    match sign {
-        Sign::Least => true,
-        Sign::Greatest => false,
+    sign == Sign::Least
+}
+
+impl<'a> Solver<'a> {
+    // Whether the variable is in the block.
+    fn belongs(&self, k: usize, entry: &Entry) -> bool
+        ensures { result ≡ (slice_index self.now.blocks.now.ranks entry.now.rank == k) }
+    {
+        self.blocks.ranks[entry.rank as usize] as usize == k
     }
-}
 
-// Whether the variable is in the block.
-fn belongs(variables: &Variables, blocks: &Blocks, k: u8, v: usize) -> bool
-    requires small { (i : ℕ) → slice_index variables.now.entries.ranks i < 32 }
-    requires few { v < 4096 }
-    ensures { result ≡ (slice_index blocks.now.ranks (slice_index variables.now.entries.ranks v) == k) }
-{
-    blocks.ranks[variables.entries.ranks[v] as usize] == k
-}
-
-// The truths of the block's variables at the start of its rounds.
-fn begin(file: &[u8], variables: &Variables, blocks: &Blocks, k: u8, truths: &mut [bool; VARIABLES])
-    requires described { Described file.now (variables_of file.now) variables.now }
-    requires few { k < 32 }
-    ensures { assigned truths.new ≡ put (block_at (variables_of file.now) blocks.now.ranks k (slice_index_or blocks.now.signs k Least)) (λ _. edge false true (kept_sign (slice_index_or blocks.now.signs k Least))) (assigned truths.old) }
-{
-    let start = !moves_to(blocks.signs[k as usize]);
-    for v in 0..variables.count {
-        if belongs(variables, blocks, k, v) {
-            truths[v] = start;
+    // Gives the variables of the block the truth with which its rounds start.
+    fn begin(&self, k: usize, truths: &mut [bool; VARIABLES])
+        requires few { k < length (listed self.now.blocks.now.signs) }
+        ensures { assigned truths.new ≡ put (block self.now k) (λ _. edge false true (kept_sign (sign self.now k))) (assigned truths.old) }
+    {
+        let start = !moves_to(self.blocks.signs.as_slice()[k]);
+        for (v, entry) in self.variables.entries.as_slice().iter().enumerate() {
+            if self.belongs(k, entry) {
+                truths[v] = start;
+            }
         }
     }
-}
 
-// Moves the truth of the variable, if it is in the block and its body says so; tells whether it moved.
-fn visit(
-    file: &[u8],
-    variables: &Variables,
-    blocks: &Blocks,
-    k: u8,
-    v: usize,
-    to: bool,
-    truths: &mut [bool; VARIABLES],
-) -> bool
-    requires described { Described file.now (variables_of file.now) variables.now }
-    requires small { length file.now ≤ 65536 }
-    requires few { v < variables.now.count }
-    ensures { Visited to (variable_body (variables_of file.now)) (λ j. in_block (member_at (variables_of file.now) j) blocks.now.ranks k) v truths.old truths.new result }
-{
-    // A truth that has moved stays.
-    if truths[v] == to || !belongs(variables, blocks, k, v) {
-        return false;
+    // Moves the truth of the variable, if it is in the block and its body says so; tells whether it moved.
+    fn visit(&self, k: usize, v: usize, to: bool, truths: &mut [bool; VARIABLES]) -> bool
+        requires few { v < length (listed self.now.variables.now.entries) }
+        ensures { Visited to (body self.now) (inside self.now k) v truths.old truths.new result }
+    {
+        // A truth that has moved stays.
+        if truths[v] == to {
+            return false;
+        }
+        let entries = self.variables.entries.as_slice();
+        let entry = &entries[v];
+        if !self.belongs(k, entry) {
+            return false;
+        }
+        let mut cursor = Cursor {
+            bytes: self.file,
+            at: entry.body,
+        };
+        let Ok(truth) = read_body(&mut cursor, entries.len() as u32, truths, BODY_DEPTH) else {
+            return false;
+        };
+        if truth != to {
+            return false;
+        }
+        truths[v] = to;
+        true
     }
-    let Ok(said) = read_body(
-        file,
-        variables.entries.bodies[v],
-        variables.count,
-        truths,
-        BODY_DEPTH,
-    ) else {
-        return false;
-    };
-    if said.truth != to {
-        return false;
-    }
-    truths[v] = to;
-    true
-}
 
-// Visits the variables of the block, the last one first; tells whether one moved.
-fn sweep(
-    file: &[u8],
-    variables: &Variables,
-    blocks: &Blocks,
-    k: u8,
-    truths: &mut [bool; VARIABLES],
-) -> bool
-    requires described { Described file.now (variables_of file.now) variables.now }
-    requires small { length file.now ≤ 65536 }
-    requires few { k < 32 }
-    ensures { Swept (slice_index_or blocks.now.signs k Least) (variable_body (variables_of file.now)) (λ j. in_block (member_at (variables_of file.now) j) blocks.now.ranks k) 0 (assigned truths.old) (assigned truths.new) result }
-{
-    let to = moves_to(blocks.signs[k as usize]);
-    let mut changed = false;
-    for i in 0..variables.count {
-        let moved = visit(
-            file,
-            variables,
-            blocks,
-            k,
-            variables.count - 1 - i,
-            to,
-            truths,
-        );
-        changed = joined(true, changed, moved);
+    // Visits the variables of the block, the last one first; tells whether one moved.
+    fn sweep(&self, k: usize, truths: &mut [bool; VARIABLES]) -> bool
+        requires few { k < length (listed self.now.blocks.now.signs) }
+        ensures { Swept (sign self.now k) (body self.now) (inside self.now k) 0 (assigned truths.old) (assigned truths.new) result }
+    {
+        let to = moves_to(self.blocks.signs.as_slice()[k]);
+        let mut changed = false;
+        for v in (0..self.variables.entries.as_slice().len()).rev() {
+            if self.visit(k, v, to, truths) {
+                changed = true;
+            }
+        }
+        changed
     }
-    changed
-}
 
-// Sweeps until nothing moves, the other blocks being held; tells whether a truth moved.
-fn settle_block(
-    file: &[u8],
-    variables: &Variables,
-    blocks: &Blocks,
-    k: u8,
-    truths: &mut [bool; VARIABLES],
-) -> bool
-    requires described { Described file.now (variables_of file.now) variables.now }
-    requires small { length file.now ≤ 65536 }
-    requires few { k < 32 }
-    ensures { Swept (slice_index_or blocks.now.signs k Least) (variable_body (variables_of file.now)) (λ j. in_block (member_at (variables_of file.now) j) blocks.now.ranks k) 0 (assigned truths.old) (assigned truths.new) result }
-{
-    let mut changed = false;
-    while sweep(file, variables, blocks, k, truths) {
-        changed = true;
+    // Sweeps until nothing moves, the other blocks being held; tells whether a truth moved.
+    fn settle_block(&self, k: usize, truths: &mut [bool; VARIABLES]) -> bool
+        requires few { k < length (listed self.now.blocks.now.signs) }
+        ensures { Swept (sign self.now k) (body self.now) (inside self.now k) 0 (assigned truths.old) (assigned truths.new) result }
+    {
+        let mut changed = false;
+        while self.sweep(k, truths) {
+            changed = true;
+        }
+        changed
     }
-    changed
-}
 
-// Solves the blocks below k, the truths of the others being held.
-fn solve_below(
-    file: &[u8],
-    variables: &Variables,
-    blocks: &Blocks,
-    k: u8,
-    truths: &mut [bool; VARIABLES],
-)
-    requires described { Described file.now (variables_of file.now) variables.now }
-    requires small { length file.now ≤ 65536 }
-    requires few { k ≤ 32 }
-    ensures { assigned truths.new ≡ solution order (variable_body (variables_of file.now)) (blocks_of (variables_of file.now) blocks.now k) (assigned truths.old) }
-{
-    if k == 0 {
-        return;
-    }
-    begin(file, variables, blocks, k - 1, truths);
-    // Each round but the last moves the truth of a variable of the block.
-    loop {
-        solve_below(file, variables, blocks, k - 1, truths);
-        if !settle_block(file, variables, blocks, k - 1, truths) {
+    // Solves the blocks below k, the truths of the others being held.
+    fn solve_below(&self, k: usize, truths: &mut [bool; VARIABLES])
+        requires few { k ≤ length (listed self.now.blocks.now.signs) }
+        ensures { assigned truths.new ≡ solution order (body self.now) (blocks_below self.now k) (assigned truths.old) }
+    {
+        if k == 0 {
             return;
         }
+        self.begin(k - 1, truths);
+        // Each round but the last moves the truth of a variable of the block.
+        loop {
+            self.solve_below(k - 1, truths);
+            if !self.settle_block(k - 1, truths) {
+                return;
+            }
+        }
     }
 }
 
-fn deliver(solution: &[bool; VARIABLES], count: usize, truths: &mut [u8])
-    requires few { count ≤ 4096 }
-    requires room { count ≤ length truths.old }
-    ensures { truths.new ≡ map byte_of (front count solution.now) ++ drop count truths.old }
+// Writes the truths to the front, a byte each.
+fn deliver(solution: &[bool], truths: &mut [u8])
+    requires room { length solution.now ≤ length truths.old }
+    ensures { truths.new ≡ map byte_of solution.now ++ drop (length solution.now) truths.old }
 {
-    for v in 0..count {
-        truths[v] = solution[v] as u8;
+    for (v, truth) in solution.iter().enumerate() {
+        truths[v] = *truth as u8;
     }
 }
 
@@ -179,15 +137,21 @@ pub fn solve(file: &[u8], truths: &mut [u8]) -> Result<usize, SolveFault>
     ensures { Solving file.now truths.old truths.new result }
 {
     let variables = read_boolean(file)?;
-    if truths.len() < variables.count {
+    let count = variables.entries.as_slice().len();
+    if truths.len() < count {
         return Err(SolveFault {
             reason: Reason::TooFewTruths,
             place: 0,
         });
     }
-    let blocks = blocks_of(&variables.entries.signs);
+    let blocks = blocks_of(&variables.signs);
+    let solver = Solver {
+        file,
+        variables: &variables,
+        blocks: &blocks,
+    };
     let mut solution = [false; VARIABLES];
-    solve_below(file, &variables, &blocks, blocks.count, &mut solution);
-    deliver(&solution, variables.count, truths);
-    Ok(variables.count)
+    solver.solve_below(blocks.signs.as_slice().len(), &mut solution);
+    deliver(&solution[0..count], truths);
+    Ok(count)
 }

@@ -1,112 +1,55 @@
 //! The tokens of a body: false, true, all, any and variables.
-ghost use Rattle.std.specs.Prelude.{◌≡◌, ℕ, ◌≤◌, Bool, ◌&&◌, ◌||◌, length, if◌then◌else◌};
-ghost use Rattle.faults.specs.declared.Reason.TheVariants.{NoSuchName};
-ghost use Rattle.definitions.specs.Reading.{take_for, below};
-ghost use Rattle.definitions.specs.Boolean.{said, read_token};
-ghost use Rattle.boolean.specs.Steps.{assigned, mapped, told_said};
+ghost use Rattle.std.specs.Prelude.{◌≤◌, length};
+ghost use Rattle.bits.specs.Told.{Reads};
+ghost use Rattle.boolean.specs.Steps.{assigned, read_said};
 
-use bits::BitReader;
-use faults::{Reason, SolveFault};
+use bits::Cursor;
+use faults::{Reason, Stop};
 
 /// The greatest depth of a body.
 pub const BODY_DEPTH: u8 = 8;
 
-/// The truth of a body, and the place behind it.
-#[derive(Clone, Copy)]
-pub struct Said {
-    pub truth: bool,
-    pub next: usize,
-}
-
-// The truth of the variable whose number stands at the place.
-fn read_name(bytes: &[u8], at: usize, variables: usize, truths: &[bool]) -> Result<Said, SolveFault>
-    requires small { length bytes.now ≤ 65536 }
-    requires room { variables ≤ length truths.now }
-    ensures { told_said result ≡ mapped (assigned truths.now) (take_for 12 (below variables) NoSuchName bytes.now at) }
-{
-    let mut reader = BitReader { bytes, at };
-    let Some(variable) = reader.next(12) else {
-        return Err(SolveFault {
-            reason: Reason::EndsInField,
-            place: at,
-        });
-    };
-    if variable as usize >= variables {
-        return Err(SolveFault {
-            reason: Reason::NoSuchName,
-            place: at,
-        });
-    }
-    Ok(Said {
-        truth: truths[variable as usize],
-        next: reader.at,
-    })
-}
-
-// Any takes one part that is true, all takes every part.
-pub(crate) fn joined(any: bool, truth: bool, part: bool) -> bool
-    ensures { result ≡ (if any then truth || part else truth && part) }
-{
-    if any { truth || part } else { truth && part }
-}
-
-/// Reads the body at the place, of depth at most `depth` over that many variables: its truth under the truths of the variables.
+/// Reads a body of depth at most `depth` over that many variables: its truth under the truths of the variables.
 pub(crate) fn read_body(
-    bytes: &[u8],
-    at: usize,
-    variables: usize,
+    cursor: &mut Cursor,
+    variables: u32,
     truths: &[bool],
     depth: u8,
-) -> Result<Said, SolveFault>
-    requires small { length bytes.now ≤ 65536 }
+) -> Result<bool, Stop>
     requires room { variables ≤ length truths.now }
-    ensures { told_said result ≡ mapped (λ p. said p (assigned truths.now)) (read_token variables depth bytes.now at) }
+    ensures { Reads (λ t. t) (read_said variables depth (assigned truths.now)) cursor.old cursor.new result }
 {
-    let mut reader = BitReader { bytes, at };
-    let Some(kind) = reader.next(3) else {
-        return Err(SolveFault {
-            reason: Reason::EndsInField,
-            place: at,
-        });
-    };
+    let place = cursor.at;
+    let kind = cursor.field(3)?;
     if depth == 0 {
-        return Err(SolveFault {
+        return Err(Stop {
             reason: Reason::TooDeep,
-            place: at,
+            place,
         });
     }
-    let behind = reader.at;
     match kind {
-        0 => Ok(Said {
-            truth: false,
-            next: behind,
-        }),
-        1 => Ok(Said {
-            truth: true,
-            next: behind,
-        }),
+        0 => Ok(false),
+        1 => Ok(true),
         2 | 3 => {
-            let mut reader = BitReader { bytes, at: behind };
-            let Some(less) = reader.next(8) else {
-                return Err(SolveFault {
-                    reason: Reason::EndsInField,
-                    place: behind,
-                });
-            };
+            // Of no parts all is true and any is false, and a part of the other truth decides.
             let any = kind == 3;
             let mut truth = !any;
-            let mut next = reader.at;
-            for _i in 0..less + 1 {
-                let part = read_body(bytes, next, variables, truths, depth - 1)?;
-                truth = joined(any, truth, part.truth);
-                next = part.next;
+            let parts = cursor.field(8)? + 1;
+            for _ in 0..parts {
+                let part = read_body(cursor, variables, truths, depth - 1)?;
+                if part == any {
+                    truth = any;
+                }
             }
-            Ok(Said { truth, next })
+            Ok(truth)
         }
-        4 => read_name(bytes, behind, variables, truths),
-        _ => Err(SolveFault {
+        4 => {
+            let variable = cursor.field_below(12, variables, Reason::NoSuchName)?;
+            Ok(truths[variable as usize])
+        }
+        _ => Err(Stop {
             reason: Reason::NoSuchName,
-            place: at,
+            place,
         }),
     }
 }

@@ -1,5 +1,6 @@
+use Rattle.std.proofs.Common.{◌-◌}
 use Rattle.boolean.specs.Ranked.{Merged}
 use Rattle.boolean.proofs.merging.blocks_of.Given as goal
 
-abbrev pub invariant-loop-k : goal.invariant-loop-k
-invariant-loop-k l = Merged l.signs l.k l.all
+abbrev pub invariant-loop-rank : goal.invariant-loop-rank
+invariant-loop-rank l = Merged l.signs (32 - l.rank) l.all
