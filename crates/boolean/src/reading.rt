@@ -1,7 +1,6 @@
 //! Reading a Boolean file.
 ghost use Rattle.std.specs.Prelude.{◌≡◌, ◌<◌, ◌≤◌, true, List, length, MatchOption};
 ghost use Rattle.rows.specs.Listed.{listed};
-ghost use Rattle.definitions.specs.ReadSystem.{sign_of as read_sign};
 ghost use Rattle.definitions.specs.Boolean.{Variable, same_sign};
 ghost use Rattle.system.specs.Files.{kept_sign};
 ghost use Rattle.boolean.specs.Files.{Entered, EntryTold, ListTold, BooleanTold};
@@ -12,16 +11,6 @@ use bits::Cursor;
 use faults::{Reason, SolveFault, Stop};
 use rows::Row;
 use system::header::Sign;
-
-fn sign_of(bit: u32) -> Sign
-    ensures { kept_sign result ≡ read_sign bit }
-{
-    if bit == 0 {
-        Sign::Least
-    } else {
-        Sign::Greatest
-    }
-}
 
 // Whether the rank has the sign, or none yet.
 fn suits(known: Option<Sign>, sign: Sign) -> bool
@@ -45,7 +34,7 @@ fn read_entry(
     ensures told { (vs : List Variable) → Entered cursor.old.bytes.now count vs variables.old → EntryTold count vs cursor.old cursor.new variables.new result }
     ensures same { cursor.new.bytes.now ≡ cursor.old.bytes.now }
 {
-    let sign = sign_of(cursor.field(1)?);
+    let sign = Sign::from_bit(cursor.field(1)?);
     let place = cursor.at;
     let rank = cursor.field(5)?;
     if !suits(variables.signs[rank as usize], sign) {
