@@ -10,11 +10,6 @@ pub returns-in_err-header : goal.returns-in_err-header
 returns-in_err-header g c =
     begun_stop (read_header (g.G.Algebra.meaning c.args.alg.now)) c.read_header.new.cursor (λ r. map kept_header (listed r)) c.from_residual.result c.in_err-header.field-0.0 (omega arith) c.loop.invariant c.in_err-header.ensures c.from_residual.ensures.1
 
-pub unwrap-requires : goal.unwrap-requires
-unwrap-requires g c =
-    let n = c.loop.invariant.count in
-    let e = length-map (listed c.loop.headers) kept_header in c.push.ensures.room.1 (omega arith)
-
 pub loop-preserved : goal.loop-preserved
 loop-preserved g c =
     let n = c.loop.invariant.count in

@@ -10,11 +10,6 @@ pub returns-in_err-variable : goal.returns-in_err-variable
 returns-in_err-variable g c =
     begun_stop (read_quantified (g.G.Algebra.meaning c.args.alg.now)) c.read_quantified.new.cursor (λ r. map kept_quantified (listed r)) c.from_residual.result c.in_err-variable.field-0.0 (omega arith) c.loop.invariant c.in_err-variable.ensures c.from_residual.ensures.1
 
-pub unwrap-requires : goal.unwrap-requires
-unwrap-requires g c =
-    let n = c.loop.invariant.count in
-    let e = length-map (listed c.loop.quantified) kept_quantified in c.push.ensures.room.1 (omega arith)
-
 pub loop-preserved : goal.loop-preserved
 loop-preserved g c =
     let n = c.loop.invariant.count in

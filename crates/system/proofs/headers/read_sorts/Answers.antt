@@ -8,11 +8,6 @@ pub returns-in_err-sort : goal.returns-in_err-sort
 returns-in_err-sort g c =
     begun_stop (read_sort (g.G.Algebra.meaning c.args.alg.now)) c.read_sort.new.cursor (λ r. listed r) c.from_residual.result c.in_err-sort.field-0.0 (omega arith) c.loop.invariant c.in_err-sort.ensures c.from_residual.ensures.1
 
-pub unwrap-requires : goal.unwrap-requires
-unwrap-requires g c =
-    let n = c.loop.invariant.count in
-    c.push.ensures.room.1 (omega arith)
-
 pub loop-preserved : goal.loop-preserved
 loop-preserved g c =
     let n = c.loop.invariant.count in
