@@ -1,16 +1,18 @@
 -- One reader after another, with their values forgotten.
-use Rattle.std.proofs.Common.{◌≡◌, ℕ, zero, suc, ◌+◌, ◌<◌, ◌≤◌, List, [], ◌∷◌, map, length, get_or, take as front, Some, None, refl, ap, ◌∙◌, add-one, arith}
+use Rattle.std.proofs.Common.{◌≡◌, ℕ, zero, suc, ◌+◌, ◌<◌, ◌≤◌, List, [], ◌∷◌, map, length, get_or, take as front, Some, None, Option, Bor, refl, ap, ◌∙◌, add-one, arith}
+use Rattle.std.specs.Option.{option_map}
+use Rattle.std.specs.Slice.{IsItemAt}
 use Rattle.system.specs.declared.header.Quantified.{Quantified as Kept}
 use Rattle.system.specs.Files.{kept_quantified}
 use Rattle.faults.specs.declared.Reason.{Reason}
 use Rattle.faults.specs.declared.Reason.TheVariants.{NoSuchName}
-use Rattle.definitions.specs.Lists.{at, bind}
+use Rattle.definitions.specs.Lists.{at, up_to, bind}
 use Rattle.definitions.specs.Alg.{Alg}
 use Rattle.definitions.specs.Reading.{Step, next, stop, Reader, follow, take, given, repeated, one_by_one}
 use Rattle.definitions.specs.Systems.{Term, Equation}
 use Rattle.definitions.specs.ReadSystem.{Scope, Header, scope, read_target, read_of, read_occurrence, read_clause, read_body}
-use Rattle.system.specs.Bodies.{body_places}
 use Rattle.system.specs.Steps.{placed}
+use Rattle.system.proofs.Rows.{counted}
 
 pub after : {A B : Type 0} (m : Step A) (k : A → ℕ → Step B) (q : ℕ) (w : Step (Unit {0})) → next tt q ≡ placed m → ((x : A) → w ≡ placed (k x q)) → w ≡ placed (follow m k)
 after (next x t) k q w e h = let i : q ≡ t = cc in h x ∙ ap (λ z. placed (k x z)) i
@@ -18,10 +20,6 @@ after (stop r t) k q w e h = let z : ◌≡◌ {A = ℕ} 0 1 = cc in absurd (ome
 
 pub exactly : {A B : Type 0} (m : Step A) (k : A → ℕ → Step B) (x : A) (q : ℕ) (w : Step (Unit {0})) → next x q ≡ m → w ≡ placed (k x q) → w ≡ placed (follow m k)
 exactly m k x q w e h = h ∙ ap (λ z. placed (follow z k)) e
-
-pub refused : {A B : Type 0} (m : Step A) (k : A → ℕ → Step B) (r : Reason) (t : ℕ) → stop r t ≡ placed m → stop r t ≡ placed (follow m k)
-refused (next x u) k r t e = let z : ◌≡◌ {A = ℕ} 0 1 = cc in absurd (omega arith)
-refused (stop s u) k r t e = e
 
 pub wrapped : {A B : Type 0} (g : A → B) (m : Step A) → placed m ≡ placed (follow m (λ x q. next (g x) q))
 wrapped g (next x q) = refl
@@ -48,40 +46,26 @@ module _ {X : Type 0} (g : X → Header) (xs : List X) (f : List ℕ) (p i q : �
       ap (λ o. given (bind o (λ h. Some (i, h))) NoSuchName p f q) (at_item g xs i x h k) ∙
       ap (λ m. follow m (λ n q. given (bind (at (map g xs) n) (λ h. Some (n, h))) NoSuchName p f q)) e
 
-pub clause_done : (a : Alg) (hs : List Header) (c : Scope) (f : List ℕ) (p o n q : ℕ) (w : Step (Unit {0})) → next tt o ≡ placed (read_of a c 0 f p) → next n q ≡ take 3 f o →
-    w ≡ placed (repeated (read_occurrence a hs c) (n + 1) f q) → w ≡ placed (read_clause a hs c f p)
-clause_done a hs c f p o n q w e k h =
-    after (read_of a c 0 f p) _ o w e (λ g. exactly (take 3 f o) _ n q w k (h ∙ ap (λ m. placed (repeated (read_occurrence a hs c) m f q)) (add-one n) ∙ wrapped (λ os. record { guard = g; occurrences = os }) (repeated (read_occurrence a hs c) (suc n) f q)))
+module _ (a : Alg) (hs : List Header) (c : Scope) (f : List ℕ) where
+  pub occurrence_done : (p i q : ℕ) (h : Header) → next (i, h) q ≡ read_target hs f p → (w : Step (Unit {0})) → w ≡ placed (one_by_one (read_of a c) h.sorts f q) → w ≡ placed (read_occurrence a hs c f p)
+  occurrence_done p i q h e w k = exactly (read_target hs f p) _ (i, h) q w e (k ∙ wrapped (λ ts. record { target = i; arguments = ts }) (one_by_one (read_of a c) h.sorts f q))
 
-pub body_same : (a : Alg) (hs : List Header) (h : Header) (f : List ℕ) (p : ℕ) → body_places a hs (scope h) f p ≡ placed (read_body a hs h f p)
-body_same a hs h f p = go (read_of a (scope h) 0 f p)
+  pub clause_done : (p o n q : ℕ) → next tt o ≡ placed (read_of a c 0 f p) → next n q ≡ take 3 f o → (w : Step (Unit {0})) → w ≡ placed (one_by_one (λ (_ : ℕ). read_occurrence a hs c) (up_to (n + 1)) f q) → w ≡ placed (read_clause a hs c f p)
+  clause_done p o n q e k w h =
+      after (read_of a c 0 f p) _ o w e (λ g. exactly (take 3 f o) _ n q w k (h ∙ ap placed (counted (read_occurrence a hs c) 0 (n + 1) f q) ∙ ap (λ m. placed (repeated (read_occurrence a hs c) m f q)) (add-one n) ∙ wrapped (λ os. record { guard = g; occurrences = os }) (repeated (read_occurrence a hs c) (suc n) f q)))
+
+pub body_done : (a : Alg) (hs : List Header) (h : Header) (f : List ℕ) (p o n q : ℕ) → next tt o ≡ placed (read_of a (scope h) 0 f p) → next n q ≡ take 4 f o → (w : Step (Unit {0})) → w ≡ placed (one_by_one (λ (_ : ℕ). read_clause a hs (scope h)) (up_to n) f q) → w ≡ placed (read_body a hs h f p)
+body_done a hs h f p o n q e k w l =
+    after (read_of a (scope h) 0 f p) _ o w e (λ t. exactly (take 4 f o) _ n q w k (l ∙ ap placed (counted (read_clause a hs (scope h)) 0 n f q) ∙ wrapped {B = Equation} (λ cs. record { sign = h.sign; sorts = h.sorts; quantified = h.quantified; h = t; clauses = cs }) (repeated (read_clause a hs (scope h)) n f q)))
+
+-- the sort of a quantified variable by its number
+pub variable_at : (xs : List Kept) (n : ℕ) (r : Option (Bor Kept)) → IsItemAt xs n r → option_map (λ (x : Bor Kept). x.now.sort) r ≡ at (map (λ q. q.sort) (map kept_quantified xs)) n
+variable_at xs n r e = go r e ∙ ap (λ ys. at ys n) (fused xs)
   where
-    clauses : (t : Term) (m : Step ℕ) → follow m (λ n u. placed (repeated (read_clause a hs (scope h)) n f u)) ≡
-        placed {X = Equation} (follow m (λ n u. follow (repeated (read_clause a hs (scope h)) n f u) (λ cs v. next (record { sign = h.sign; sorts = h.sorts; quantified = h.quantified; h = t; clauses = cs }) v)))
-    clauses t (next n u) = wrapped {B = Equation} (λ cs. record { sign = h.sign; sorts = h.sorts; quantified = h.quantified; h = t; clauses = cs }) (repeated (read_clause a hs (scope h)) n f u)
-    clauses t (stop r u) = refl
+    fused : (xs : List Kept) → map (λ (q : Kept). q.sort) xs ≡ map (λ q. q.sort) (map kept_quantified xs)
+    fused [] = refl
+    fused (x ∷ xs) = ap (λ ys. x.sort ∷ ys) (fused xs)
 
-    go : (m : Step Term) → follow (placed m) (λ _ q. follow (take 4 f q) (λ n t. placed (repeated (read_clause a hs (scope h)) n f t))) ≡
-        placed {X = Equation} (follow m (λ t q. follow (take 4 f q) (λ n u. follow (repeated (read_clause a hs (scope h)) n f u) (λ cs v. next (record { sign = h.sign; sorts = h.sorts; quantified = h.quantified; h = t; clauses = cs }) v))))
-    go (next t q) = clauses t (take 4 f q)
-    go (stop r q) = refl
-
-pub mapped_walk : {X Y B : Type 0} (g : X → Y) (r : Y → Reader B) (xs : List X) (f : List ℕ) (p : ℕ) → one_by_one r (map g xs) f p ≡ one_by_one (λ x. r (g x)) xs f p
-mapped_walk g r [] f p = refl
-mapped_walk {B} g r (x ∷ xs) f p = go (λ q. mapped_walk g r xs f q) (r (g x) f p)
-  where
-    go : ((q : ℕ) → one_by_one r (map g xs) f q ≡ one_by_one (λ x. r (g x)) xs f q) → (m : Step B) → follow m (λ y q. follow (one_by_one r (map g xs) f q) (λ ys t. next (y ∷ ys) t)) ≡ follow m (λ y q. follow (one_by_one (λ x. r (g x)) xs f q) (λ ys t. next (y ∷ ys) t))
-    go h (next y q) = ap (λ m. follow m (λ ys t. next (y ∷ ys) t)) (h q)
-    go h (stop s q) = refl
-
-pub variables_same : (xs : List Kept) (d : Kept) (n : ℕ) → length xs ≡ 3 → n ≤ 3 →
-    front n ((get_or xs 0 d).sort ∷ (get_or xs 1 d).sort ∷ (get_or xs 2 d).sort ∷ []) ≡ map (λ q. q.sort) (map kept_quantified (front n xs))
-variables_same [] d n e h = absurd (omega arith)
-variables_same (x ∷ []) d n e h = absurd (omega arith)
-variables_same (x ∷ y ∷ []) d n e h = absurd (omega arith)
-variables_same (x ∷ y ∷ z ∷ []) d zero e h = refl
-variables_same (x ∷ y ∷ z ∷ []) d (suc zero) e h = refl
-variables_same (x ∷ y ∷ z ∷ []) d (suc (suc zero)) e h = refl
-variables_same (x ∷ y ∷ z ∷ []) d (suc (suc (suc zero))) e h = refl
-variables_same (x ∷ y ∷ z ∷ []) d (suc (suc (suc (suc n)))) e h = absurd (omega arith)
-variables_same (x ∷ y ∷ z ∷ w ∷ xs) d n e h = absurd (omega arith)
+    go : (r : Option (Bor Kept)) → IsItemAt xs n r → option_map (λ (x : Bor Kept). x.now.sort) r ≡ at (map (λ (q : Kept). q.sort) xs) n
+    go None e = at_none (λ (q : Kept). q.sort) xs n e.3
+    go (Some x) e = at_item (λ (q : Kept). q.sort) xs n x.now e.3.0 e.1

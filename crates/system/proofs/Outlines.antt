@@ -1,8 +1,10 @@
 -- Whole system files as they are read.
-use Rattle.std.proofs.Common.{◌≡◌, ℕ, zero, suc, ◌<◌, ◌≤◌, Bool, true, false, ◌||◌, eqb, ltb, List, [], ◌∷◌, map, length, get_or, take as front, sym, refl, ap, ◌∙◌, arith, length-take-le}
+use Rattle.std.proofs.Common.{◌≡◌, ℕ, zero, suc, ◌<◌, ◌≤◌, Bool, true, false, ◌||◌, eqb, ltb, List, [], ◌∷◌, map, length, get_or, Some, take as front, sym, refl, ap, ◌∙◌, arith, length-take-le}
 use Rattle.std.proofs.lemmas.Bool.{lt-ltb, ltb-false}
+use Rattle.std.proofs.lemmas.List.{length-map}
 use Rattle.faults.specs.declared.Reason.{Reason}
 use Rattle.faults.specs.declared.Reason.TheVariants.{BadLength, NoEquations}
+use Rattle.definitions.specs.Lists.{at}
 use Rattle.definitions.specs.Alg.{Alg}
 use Rattle.definitions.specs.Systems.{Term, Clause, Equation, System}
 use Rattle.definitions.specs.Reading.{Step, next, stop, Reader, follow, take, repeated, one_by_one, must, ended, complete, got, bad}
@@ -11,11 +13,11 @@ use Rattle.definitions.specs.Fits.{header_of}
 use Rattle.system.specs.Steps.{placed}
 use Rattle.system.specs.Bodies.{places_of, padded}
 use Rattle.system.specs.Files.{kept_header}
-use Rattle.system.specs.Whole.{read_rest, RestOf, kept_headers, Outlined}
-use Rattle.system.specs.declared.instance.Instance.{Instance}
+use Rattle.system.specs.Whole.{read_rest, kept_headers, Outlined}
 use Rattle.system.specs.declared.outline.Outline.{Outline}
-use Rattle.system.specs.declared.rest.Rest.{Rest}
-use Rattle.system.proofs.Lists.{at_small, length-map}
+use Rattle.system.specs.declared.header.Header.{Header as KeptHeader}
+use Rattle.system.specs.declared.outline.Equation.{Equation as Told}
+use Rattle.rows.specs.Listed.{listed}
 use Rattle.system.proofs.Walks.{ReadAt, places_read}
 
 -- what was placed
@@ -61,12 +63,6 @@ each_tells {X} {B} g r f t (x ∷ xs) p ys q e = go (λ u zs v. each_tells g r f
     go ih (next y u) k e = rest y (t x p y u k) (one_by_one r xs f u) (ih u) e
     go ih (stop s u) k e = let z : ◌≡◌ {A = ℕ} 0 1 = cc in absurd (omega arith)
 
-pub get_or_front : (ps : List ℕ) (n i : ℕ) → i < n → get_or (front n ps) i 0 ≡ get_or ps i 0
-get_or_front ps zero i h = absurd (omega arith)
-get_or_front [] (suc n) i h = refl
-get_or_front (p ∷ ps) (suc n) zero h = refl
-get_or_front (p ∷ ps) (suc n) (suc i) h = get_or_front ps n i (omega arith)
-
 module _ (a : Alg) (hs : List Header) (f : List ℕ) (p : ℕ) where
   pub rest_no_bodies : (r : Reason) (t : ℕ) → stop r t ≡ placed (one_by_one (read_body a hs) hs f p) → read_rest a hs f p ≡ stop r t
   rest_no_bodies r t e = ap (λ m. follow m (λ es q. follow (read_target hs f q) (λ t q. follow (one_by_one (read_value_of a) t.1.sorts f q) (λ vs q. next (record { equations = es; start = t.0; values = vs }) q)))) (was_stop (one_by_one (read_body a hs) hs f p) r t e)
@@ -90,30 +86,6 @@ module _ (a : Alg) (hs : List Header) (f : List ℕ) (p : ℕ) where
       let b = was_next (one_by_one (read_body a hs) hs f p) q e in
       target_read b.0 q i h u b.1 k ∙ ap (λ m. follow m (λ vs q. next (record { equations = b.0; start = i; values = vs }) q)) (sym l)
 
-  pub rest_read : (t : Rest) (q : ℕ) → next tt q ≡ placed (one_by_one (read_body a hs) hs f p) → front (length hs) t.bodies ≡ places_of (read_body a hs) hs f p →
-      (h : Header) (u : ℕ) → next (t.start.equation, h) u ≡ read_target hs f q →
-      (vs : List ℕ) → next vs t.end ≡ one_by_one (read_value_of a) h.sorts f u → t.start.values ≡ padded vs → (s : System) × RestOf a hs f p s t
-  rest_read t q e w h u k vs l z =
-      let b = was_next (one_by_one (read_body a hs) hs f p) q e in (
-        record { equations = b.0; start = t.start.equation; values = vs },
-        record {
-          whole = target_read b.0 q t.start.equation h u b.1 k ∙ ap (λ m. follow m (λ vs q. next (record { equations = b.0; start = t.start.equation; values = vs }) q)) (sym l);
-          headers = each_tells header_of (read_body a hs) f (λ x p y q j. read_header_lem a hs x f p y q j) hs p b.0 q b.1;
-          bodies = λ i e at_i. at_place t.bodies w i e (places_read f (read_body a hs) hs p q b.0 b.1 i e at_i);
-          start = refl;
-          values = z;
-        },
-      )
-    where
-      at_place : (ps : List ℕ) → front (length hs) ps ≡ places_of (read_body a hs) hs f p → (i : ℕ) (e : Equation) → ReadAt f (read_body a hs) hs (places_of (read_body a hs) hs f p) i e →
-          (q : ℕ) × (read_body a hs (header_of e) f (get_or ps i 0) ≡ next e q)
-      at_place ps w i e d =
-          let x = d.0 in
-          let r = d.1.1.1 in
-          let h : header_of e ≡ x = read_header_lem a hs x f (get_or (places_of (read_body a hs) hs f p) i 0) e d.1.0 r in
-          let g : get_or ps i 0 ≡ get_or (places_of (read_body a hs) hs f p) i 0 = sym (get_or_front ps (length hs) i (at_small hs i x d.1.1.0)) ∙ ap (λ z. get_or z i 0) w in
-          (d.1.0, ap (λ y. read_body a hs y f (get_or ps i 0)) h ∙ ap (λ y. read_body a hs x f y) g ∙ r)
-
 positive : (n : ℕ) → (n ≡ 0 → ⊥) → true ≡ ltb 0 n
 positive n h = sym (lt-ltb 0 n (omega arith))
 
@@ -124,18 +96,48 @@ system_read a f n q e h hs u k =
     ap (λ b. follow (must b NoEquations 0 f q) (λ _ q. follow (repeated (read_header a) n f q) (λ hs q. read_rest a hs f q))) (sym (positive n h)) ∙
     ap (λ m. follow m (λ hs q. read_rest a hs f q)) (sym k)
 
-pub outlined : (a : Alg) (f : List ℕ) (o : Outline) (t : Rest) (u : ℕ) (s : System) → read_system a f 0 ≡ read_rest a (kept_headers o) f u → RestOf a (kept_headers o) f u s t →
-    o.bodies ≡ t.bodies → o.start ≡ t.start → o.end ≡ t.end → length o.headers ≡ 31 → Outlined a f s o
-outlined a f o t u s e r b i w l =
-    let n : length (front o.count o.headers) ≡ o.count = length-take-le o.count o.headers (let few = o.few in omega arith) in
-    record {
-      whole = e ∙ r.whole ∙ ap (λ z. next s z) (sym w);
-      count = sym n ∙ sym (length-map kept_header (front o.count o.headers)) ∙ sym (ap length r.headers) ∙ length-map header_of s.equations;
-      headers = sym r.headers;
-      bodies = λ j x k. let d = r.bodies j x k in (d.0, ap (λ z. read_body a (kept_headers o) (header_of x) f (get_or z j 0)) b ∙ d.1);
-      start = ap (λ (z : Instance). z.equation) i ∙ r.start;
-      values = ap (λ (z : Instance). z.values) i ∙ r.values;
-    }
+body_at : (ts : List Told) (i : ℕ) (t : Told) → at ts i ≡ Some t → t.body ≡ get_or (map (λ (t : Told). t.body) ts) i 0
+body_at [] i t e = let z : ◌≡◌ {A = ℕ} 0 1 = cc in absurd (omega arith)
+body_at (u ∷ ts) zero t e = let i : t ≡ u = cc in ap (λ (t : Told). t.body) i
+body_at (u ∷ ts) (suc i) t e = body_at ts i t e
+
+heads : (ts : List Told) → map (λ (t : Told). kept_header t.header) ts ≡ map kept_header (map (λ (t : Told). t.header) ts)
+heads [] = refl
+heads (t ∷ ts) = ap (λ hs. kept_header t.header ∷ hs) (heads ts)
+
+pub outlined : (a : Alg) (f : List ℕ) (o : Outline) (ks : List KeptHeader) (p q u : ℕ) (h : Header) (vs : List ℕ) → map (λ (t : Told). t.header) (listed o.equations) ≡ ks → read_system a f 0 ≡ read_rest a (map kept_header ks) f p → next tt q ≡ placed (one_by_one (read_body a (map kept_header ks)) (map kept_header ks) f p) →
+    map (λ (t : Told). t.body) (listed o.equations) ≡ places_of (read_body a (map kept_header ks)) (map kept_header ks) f p → next (o.start.equation, h) u ≡ read_target (map kept_header ks) f q → next vs o.end ≡ one_by_one (read_value_of a) h.sorts f u → o.start.values ≡ padded vs → (s : System) × Outlined a f s o
+outlined a f o ks p q u h vs n e b w t l z =
+    let hs = map kept_header ks in
+    let d = was_next (one_by_one (read_body a hs) hs f p) q b in
+    let k : map header_of d.0 ≡ hs = each_tells header_of (read_body a hs) f (λ x p y q j. read_header_lem a hs x f p y q j) hs p d.0 q d.1 in
+    let m : kept_headers o ≡ hs = heads (listed o.equations) ∙ ap (map kept_header) n in (
+      record { equations = d.0; start = o.start.equation; values = vs },
+      record {
+        whole = e ∙ target_read a hs f p d.0 q o.start.equation h u d.1 t ∙ ap (λ m. follow m (λ vs q. next (record { equations = d.0; start = o.start.equation; values = vs }) q)) (sym l);
+        count = sym (length-map (listed o.equations) (λ (t : Told). kept_header t.header)) ∙ ap length (m ∙ sym k) ∙ length-map d.0 header_of;
+        headers = m ∙ sym k;
+        bodies = λ i x t j y. at_place hs m (places_of (read_body a hs) hs f p) w i x t y (places_read f (read_body a hs) hs p q d.0 d.1 i x j);
+        start = refl;
+        values = z;
+      },
+    )
+  where
+    at_place : (hs : List Header) → kept_headers o ≡ hs → (ps : List ℕ) → map (λ (t : Told). t.body) (listed o.equations) ≡ ps → (i : ℕ) (x : Equation) (t : Told) → at (listed o.equations) i ≡ Some t → ReadAt f (read_body a hs) hs ps i x →
+        (q : ℕ) × (read_body a (kept_headers o) (header_of x) f t.body ≡ next x q)
+    at_place hs m ps w i x t y d =
+        let v = d.0 in
+        let r = d.1.1.1 in
+        let g : header_of x ≡ v = read_header_lem a hs v f (get_or ps i 0) x d.1.0 r in
+        let b : t.body ≡ get_or ps i 0 = body_at (listed o.equations) i t y ∙ ap (λ z. get_or z i 0) w in
+        (d.1.0, ap (λ z. read_body a z (header_of x) f t.body) m ∙ ap (λ z. read_body a hs z f t.body) g ∙ ap (λ z. read_body a hs v f z) b ∙ r)
+
+-- a system whose headers are not read
+pub no_headers : (a : Alg) (f : List ℕ) (n q : ℕ) → next n q ≡ take 5 f 0 → (n ≡ 0 → ⊥) → (r : Reason) (t : ℕ) → stop r t ≡ repeated (read_header a) n f q → read_system a f 0 ≡ stop r t
+no_headers a f n q e h r t k =
+    ap (λ m. follow m (λ n q. follow (must (ltb 0 n) NoEquations 0 f q) (λ _ q. follow (repeated (read_header a) n f q) (λ hs q. read_rest a hs f q)))) (sym e) ∙
+    ap (λ b. follow (must b NoEquations 0 f q) (λ _ q. follow (repeated (read_header a) n f q) (λ hs q. read_rest a hs f q))) (sym (positive n h)) ∙
+    ap (λ m. follow m (λ hs q. read_rest a hs f q)) (sym k)
 
 -- a file that is read is not too long
 pub got_short : (a : Alg) (f : List ℕ) (s : System) → reading a f ≡ got s → length f ≤ 8192

@@ -1,79 +1,108 @@
--- Readers in a row, with their values forgotten.
-use Rattle.std.proofs.Common.{◌≡◌, ℕ, zero, suc, ◌+◌, ◌-◌, ◌<◌, List, ◌∷◌, IsErrAnd, Ok, Err, Option, Result, sym, refl, ap, ◌∙◌, sub-one, arith}
+-- Readings of one thing after another.
+use Rattle.std.proofs.Common.{◌≡◌, ℕ, zero, suc, ◌+◌, ◌-◌, ◌<◌, ◌≤◌, List, [], ◌∷◌, ◌++◌, map, length, get_or, drop, Some, None, IsErrAnd, Option, Result, sym, refl, ap, ◌∙◌, zero-add, add-one, arith}
+use Rattle.std.proofs.lemmas.List.{append-nil, append_assoc, drop_all}
 use Rattle.faults.specs.declared.Reason.{Reason}
-use Rattle.definitions.specs.Lists.{from}
-use Rattle.definitions.specs.Alg.{Alg}
-use Rattle.definitions.specs.Reading.{Step, next, stop, Reader, follow, take, repeated, one_by_one}
-use Rattle.definitions.specs.ReadSystem.{Scope, Sorted, read_term, read_kind}
-use Rattle.faults.specs.declared.ReadFault.{ReadFault}
+use Rattle.faults.specs.declared.Stop.{Stop}
+use Rattle.definitions.specs.Lists.{at, from, up_to}
+use Rattle.definitions.specs.Reading.{Step, next, stop, Reader, follow, repeated, one_by_one}
+use Rattle.definitions.specs.ReadSystem.{Sorted}
+use Rattle.bits.specs.declared.file.Cursor.{Cursor}
+use Rattle.bits.specs.InRow.{before}
+use Rattle.bits.specs.Told.{told, Reads}
+use Rattle.bits.proofs.InRow.{passed}
 use Rattle.system.specs.Steps.{sorts, placed}
+use Rattle.system.specs.Rows.{Skipped, Kept}
+
+-- what `?` hands on of a reading that stopped
+pub stopped : {T Y : Type 0} (what : T → Y) (q : ℕ) (res : Result T Stop) (e : Stop) (m : Step Y) → IsErrAnd res (λ y. y ≡ e) → stop e.reason e.place ≡ m → told what q res ≡ m
+stopped what q res e m h k = ap (told what q) (passed res e h) ∙ k
+
+-- what a reader further on answers is the answer
+pub handed : {T Y : Type 0} (what : T → Y) (r s : Reader Y) (old mid new : Cursor) (res : Result T Stop) → mid.bytes.now ≡ old.bytes.now → Reads what r mid new res → r old.bytes.now mid.at ≡ s old.bytes.now old.at → Reads what s old new res
+handed what r s old mid new res e h k = (h.0 ∙ ap (λ f. r f mid.at) e ∙ k, h.1 ∙ e)
 
 pub placed_sorts : (m : Step Sorted) → placed (sorts m) ≡ placed m
 placed_sorts (next x q) = refl
 placed_sorts (stop r q) = refl
 
+pub dropped : {X : Type 0} (xs : List X) (i : ℕ) (x : X) → at xs i ≡ Some x → drop i xs ≡ x ∷ drop (suc i) xs
+dropped [] i x e = let z : ◌≡◌ {A = ℕ} 0 1 = cc in absurd (omega arith)
+dropped (y ∷ xs) zero x e = let i : y ≡ x = cc in ap (λ z. z ∷ xs) i
+dropped (y ∷ xs) (suc i) x e = dropped xs i x e
+
 placed_more : {B : Type 0} (y : B) (m : Step (List B)) → placed (follow m (λ ys q. next (y ∷ ys) q)) ≡ placed m
 placed_more y (next x q) = refl
 placed_more y (stop r q) = refl
 
-module _ {B : Type 0} (f : List ℕ) where
-  pub next_at : (k : ℕ → Step (List B)) (q : ℕ) (m : Step B) → next tt q ≡ placed m → placed (follow m (λ y t. follow (k t) (λ ys u. next (y ∷ ys) u))) ≡ placed (k q)
-  next_at k q (next y t) e = let i : t ≡ q = cc in placed_more y (k t) ∙ ap (λ z. placed (k z)) i
-  next_at k q (stop r t) e = let z : ◌≡◌ {A = ℕ} 0 1 = cc in absurd (omega arith)
+next_at : {B : Type 0} (k : ℕ → Step (List B)) (q : ℕ) (m : Step B) → next tt q ≡ placed m → placed (follow m (λ y t. follow (k t) (λ ys u. next (y ∷ ys) u))) ≡ placed (k q)
+next_at k q (next y t) e = let i : t ≡ q = cc in placed_more y (k t) ∙ ap (λ z. placed (k z)) i
+next_at k q (stop r t) e = let z : ◌≡◌ {A = ℕ} 0 1 = cc in absurd (omega arith)
 
-  pub stop_at : (k : B → ℕ → Step (List B)) (r : Reason) (q : ℕ) (m : Step B) → stop r q ≡ placed m → placed (follow m k) ≡ stop r q
-  stop_at k r q (next y t) e = let z : ◌≡◌ {A = ℕ} 0 1 = cc in absurd (omega arith)
-  stop_at k r q (stop s t) e = sym e
+stop_at : {A B : Type 0} (k : B → ℕ → Step A) (r : Reason) (q : ℕ) (m : Step B) → stop r q ≡ placed m → stop r q ≡ placed (follow m k)
+stop_at k r q (next y t) e = let z : ◌≡◌ {A = ℕ} 0 1 = cc in absurd (omega arith)
+stop_at k r q (stop s t) e = e
 
-  pub repeated_next : (r : Reader B) (n i p q : ℕ) → i < n → next tt q ≡ placed (r f p) → placed (repeated r (n - i) f p) ≡ placed (repeated r (n - (i + 1)) f q)
-  repeated_next r n i p q h e = go (n - i) (n - (i + 1)) (omega arith)
+snoc_at : {X : Type 0} (xs : List X) (x : X) (m : Step (List X)) → before xs (follow m (λ ys q. next (x ∷ ys) q)) ≡ before (xs ++ (x ∷ [])) m
+snoc_at xs x (next ys q) = ap (λ zs. next zs q) (sym (append_assoc xs (x ∷ []) ys))
+snoc_at xs x (stop r q) = refl
+
+module _ {X B : Type 0} (r : X → Reader B) (xs : List X) where
+  pub kept_first : (c : Cursor) (f : List ℕ) → c.bytes.now ≡ f → Kept r xs 0 [] f c.at c
+  kept_first c f e = record { same = e; rest = begin (one_by_one r xs f c.at) }
     where
-      go : (x y : ℕ) → x ≡ y + 1 → placed (repeated r x f p) ≡ placed (repeated r y f q)
-      go zero y k = absurd (omega arith)
-      go (suc x) y k = let j : x ≡ y = omega arith in next_at (repeated r x f) q (r f p) e ∙ ap (λ z. placed (repeated r z f q)) j
+      begin : (m : Step (List B)) → m ≡ before [] m
+      begin (next ys q) = refl
+      begin (stop s q) = refl
 
-  pub repeated_stop : (r : Reader B) (n i p : ℕ) (s : Reason) (t : ℕ) → i < n → stop s t ≡ placed (r f p) → placed (repeated r (n - i) f p) ≡ stop s t
-  repeated_stop r n i p s t h e = go (n - i) (omega arith)
-    where
-      go : (x : ℕ) → 0 < x → placed (repeated r x f p) ≡ stop s t
-      go zero k = absurd (omega arith)
-      go (suc x) k = stop_at _ s t (r f p) e
+  pub skipped_next : {i : ℕ} {f : List ℕ} {p : ℕ} {now : Cursor} (new : Cursor) (x : X) → at xs i ≡ Some x → Skipped r xs i f p now → (next tt new.at ≡ placed (r x now.bytes.now now.at)) × (new.bytes.now ≡ now.bytes.now) → Skipped r xs (i + 1) f p new
+  skipped_next {i = i} {f = f} {now = now} new x h b k = record {
+    same = k.1 ∙ b.same;
+    rest = b.rest ∙ ap (λ ys. placed (one_by_one r ys f now.at)) (dropped xs i x h) ∙
+        next_at (one_by_one r (drop (suc i) xs) f) new.at (r x f now.at) (k.0 ∙ ap (λ g. placed (r x g now.at)) b.same) ∙
+        ap (λ j. placed (one_by_one r (drop j xs) f new.at)) (sym (add-one i));
+  }
 
-  pub repeated_end : (r : Reader B) (n i p : ℕ) → n ≡ i → placed (repeated r (n - i) f p) ≡ next tt p
-  repeated_end r n i p h = let e : n - i ≡ 0 = omega arith in ap (λ z. placed (repeated r z f p)) e
+  pub skipped_stop : {i : ℕ} {f : List ℕ} {p : ℕ} {now : Cursor} (e : Stop) (x : X) → at xs i ≡ Some x → Skipped r xs i f p now → stop e.reason e.place ≡ placed (r x now.bytes.now now.at) → stop e.reason e.place ≡ placed (one_by_one r xs f p)
+  skipped_stop {i = i} {f = f} {now = now} e x h b k =
+      stop_at (λ y t. follow (one_by_one r (drop (suc i) xs) f t) (λ ys u. next (y ∷ ys) u)) e.reason e.place (r x f now.at) (k ∙ ap (λ g. placed (r x g now.at)) b.same) ∙
+      sym (b.rest ∙ ap (λ ys. placed (one_by_one r ys f now.at)) (dropped xs i x h))
 
-  pub each_next : (r : ℕ → Reader B) (n i p q : ℕ) → i < n → next tt q ≡ placed (r i f p) → placed (one_by_one r (from i (n - i)) f p) ≡ placed (one_by_one r (from (i + 1) (n - (i + 1))) f q)
-  each_next r n i p q h e = go (n - i) (n - (i + 1)) (omega arith)
-    where
-      go : (x y : ℕ) → x ≡ y + 1 → placed (one_by_one r (from i x) f p) ≡ placed (one_by_one r (from (i + 1) y) f q)
-      go zero y k = absurd (omega arith)
-      go (suc x) y k =
-          let j : x ≡ y = omega arith in
-          let l : suc i ≡ i + 1 = omega arith in
-          next_at (one_by_one r (from (suc i) x) f) q (r i f p) e ∙ ap (λ z. placed (one_by_one r (from (suc i) z) f q)) j ∙ ap (λ z. placed (one_by_one r (from z y) f q)) l
+  pub skipped_end : {i : ℕ} {f : List ℕ} {p : ℕ} {now : Cursor} → length xs ≤ i → Skipped r xs i f p now → next tt now.at ≡ placed (one_by_one r xs f p)
+  skipped_end {i = i} {f = f} {now = now} h b = sym (b.rest ∙ ap (λ ys. placed (one_by_one r ys f now.at)) (drop_all i xs h))
 
-  pub each_stop : (r : ℕ → Reader B) (n i p : ℕ) (s : Reason) (t : ℕ) → i < n → stop s t ≡ placed (r i f p) → placed (one_by_one r (from i (n - i)) f p) ≡ stop s t
-  each_stop r n i p s t h e = go (n - i) (omega arith)
-    where
-      go : (x : ℕ) → 0 < x → placed (one_by_one r (from i x) f p) ≡ stop s t
-      go zero k = absurd (omega arith)
-      go (suc x) k = stop_at _ s t (r i f p) e
+  pub kept_next : {i : ℕ} {ys : List B} {f : List ℕ} {p : ℕ} {now : Cursor} (new : Cursor) (x : X) (y : B) → at xs i ≡ Some x → Kept r xs i ys f p now → (next y new.at ≡ r x now.bytes.now now.at) × (new.bytes.now ≡ now.bytes.now) → Kept r xs (i + 1) (ys ++ (y ∷ [])) f p new
+  kept_next {i = i} {ys = ys} {f = f} {now = now} new x y h b k = record {
+    same = k.1 ∙ b.same;
+    rest = b.rest ∙ ap (λ zs. before ys (one_by_one r zs f now.at)) (dropped xs i x h) ∙
+        ap (λ m. before ys (follow m (λ y t. follow (one_by_one r (drop (suc i) xs) f t) (λ ys u. next (y ∷ ys) u)))) (sym (k.0 ∙ ap (λ g. r x g now.at) b.same)) ∙
+        snoc_at ys y (one_by_one r (drop (suc i) xs) f new.at) ∙ ap (λ j. before (ys ++ (y ∷ [])) (one_by_one r (drop j xs) f new.at)) (sym (add-one i));
+  }
 
-  pub each_end : (r : ℕ → Reader B) (n i p : ℕ) → n ≡ i → placed (one_by_one r (from i (n - i)) f p) ≡ next tt p
-  each_end r n i p h = let e : n - i ≡ 0 = omega arith in ap (λ z. placed (one_by_one r (from i z) f p)) e
+  pub kept_stop : {i : ℕ} {ys : List B} {f : List ℕ} {p : ℕ} {now : Cursor} (e : Stop) (x : X) → at xs i ≡ Some x → Kept r xs i ys f p now → stop e.reason e.place ≡ r x now.bytes.now now.at → stop e.reason e.place ≡ one_by_one r xs f p
+  kept_stop {i = i} {ys = ys} {f = f} {now = now} e x h b k =
+      ap (λ m. before ys (follow m (λ y t. follow (one_by_one r (drop (suc i) xs) f t) (λ ys u. next (y ∷ ys) u)))) (k ∙ ap (λ g. r x g now.at) b.same) ∙
+      sym (b.rest ∙ ap (λ zs. before ys (one_by_one r zs f now.at)) (dropped xs i x h))
 
--- a term behind its kind
-pub opened : (a : Alg) (c : Scope) (d : ℕ) (need : Option ℕ) (f : List ℕ) (p k q n : ℕ) → (d ≡ 0 → ⊥) → next k q ≡ take 3 f p → k ≡ n →
-    read_term a c d need f p ≡ read_kind a c (read_term a c (d - 1)) p need n f q
-opened a c zero need f p k q n ne e i = absurd (ne refl)
-opened a c (suc d) need f p k q n ne e i = rw sub-one (ap (λ m. follow m (λ k q. read_kind a c (read_term a c d) p need k f q)) (sym e) ∙ ap (λ k. read_kind a c (read_term a c d) p need k f q) i)
+  pub kept_end : {i : ℕ} {ys : List B} {f : List ℕ} {p : ℕ} {now : Cursor} → length xs ≤ i → Kept r xs i ys f p now → next ys now.at ≡ one_by_one r xs f p
+  kept_end {i = i} {ys = ys} {f = f} {now = now} h b = sym (b.rest ∙ ap (λ zs. before ys (one_by_one r zs f now.at)) (drop_all i xs h) ∙ ap (λ w. next w now.at) (append-nil ys))
 
--- a term of the sort s whose parts are read by m
-pub shut : {X : Type 0} (s : ℕ) (g : X → Sorted) → ((x : X) → (g x).the_sort ≡ s) → (m : Step X) → sorts (follow m (λ x q. next (g x) q)) ≡ follow (placed m) (λ _ q. next s q)
-shut s g h (next x q) = ap (λ n. next n q) (h x)
-shut s g h (stop r q) = refl
+-- a count as a row of numbers
+pub at_from : (k n i : ℕ) → i < n → at (from k n) i ≡ Some (k + i)
+at_from k zero i h = absurd (omega arith)
+at_from k (suc n) zero h = let e : k ≡ k + 0 = omega arith in ap Some e
+at_from k (suc n) (suc i) h = let e : suc k + i ≡ k + suc i = omega arith in at_from (suc k) n i (omega arith) ∙ ap Some e
 
--- what `?` hands on
-pub passed : {T : Type 0} (r : Result T ReadFault) (e : ReadFault) → IsErrAnd r (λ y. y ≡ e) → r ≡ Err e
-passed (Ok x) e h = absurd h
-passed (Err y) e h = ap Err h
+pub at_up_to : (n i : ℕ) → i < n → at (up_to n) i ≡ Some i
+at_up_to n i h = at_from 0 n i h ∙ ap Some (zero-add i)
+
+pub length_from : (k n : ℕ) → length (from k n) ≡ n
+length_from k zero = refl
+length_from k (suc n) = ap suc (length_from (suc k) n)
+
+pub counted : {B : Type 0} (r : Reader B) (k n : ℕ) (f : List ℕ) (p : ℕ) → one_by_one (λ (_ : ℕ). r) (from k n) f p ≡ repeated r n f p
+counted r k zero f p = refl
+counted {B} r k (suc n) f p = go (λ t. counted r (suc k) n f t) (r f p)
+  where
+    go : ((t : ℕ) → one_by_one (λ (_ : ℕ). r) (from (suc k) n) f t ≡ repeated r n f t) → (m : Step B) → follow m (λ y t. follow (one_by_one (λ (_ : ℕ). r) (from (suc k) n) f t) (λ ys u. next (y ∷ ys) u)) ≡ follow m (λ y t. follow (repeated r n f t) (λ ys u. next (y ∷ ys) u))
+    go ih (next y t) = ap (λ m. follow m (λ ys u. next (y ∷ ys) u)) (ih t)
+    go ih (stop s t) = refl

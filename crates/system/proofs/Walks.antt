@@ -1,55 +1,28 @@
--- Readers over lists, with their values forgotten.
+-- The places of readers in a row, and what is read at each.
 use Rattle.std.proofs.Common.{◌≡◌, ℕ, zero, suc, ◌+◌, ◌<◌, ◌≤◌, List, [], ◌∷◌, ◌++◌, map, length, get_or, take as front, drop, set, Some, None, sym, refl, ap, ◌∙◌, add-one, arith, drop-cons}
+use Rattle.std.proofs.lemmas.List.{append-nil, append_assoc, drop_all}
 use Rattle.faults.specs.declared.Reason.{Reason}
 use Rattle.definitions.specs.Reading.{Step, next, stop, Reader, follow, one_by_one}
 use Rattle.definitions.specs.Lists.{at}
 use Rattle.system.specs.Steps.{placed}
 use Rattle.system.specs.Bodies.{places_of}
-use Rattle.system.proofs.Fills.{snoc, nil, take_set}
-use Rattle.system.proofs.Lists.{drop_end}
-use Rattle.system.proofs.Rows.{next_at, stop_at}
-
-pub again : (xs : List ℕ) (i : ℕ) → get_or xs i 0 ≡ get_or xs i (get_or xs i 0)
-again [] i = refl
-again (x ∷ xs) zero = refl
-again (x ∷ xs) (suc i) = deep xs i 0
-  where
-    deep : (xs : List ℕ) (i d : ℕ) → get_or xs i d ≡ get_or xs i (get_or xs i d)
-    deep [] i d = refl
-    deep (x ∷ xs) zero d = refl
-    deep (x ∷ xs) (suc i) d = deep xs i d
-
-module _ {X B : Type 0} (f : List ℕ) (r : X → Reader B) (xs : List X) where
-  pub walk_next : (x : X) (i p q : ℕ) → i < length xs → x ≡ get_or xs i x → next tt q ≡ placed (r x f p) → placed (one_by_one r (drop i xs) f p) ≡ placed (one_by_one r (drop (i + 1) xs) f q)
-  walk_next x i p q h k e =
-      ap (λ ys. placed (one_by_one r ys f p)) (drop-cons xs i x h ∙ ap (λ y. y ∷ drop (suc i) xs) (sym k)) ∙
-      next_at f (one_by_one r (drop (suc i) xs) f) q (r x f p) e ∙ ap (λ j. placed (one_by_one r (drop j xs) f q)) (sym (add-one i))
-
-  pub walk_stop : (x : X) (i p : ℕ) (s : Reason) (t : ℕ) → i < length xs → x ≡ get_or xs i x → stop s t ≡ placed (r x f p) → placed (one_by_one r (drop i xs) f p) ≡ stop s t
-  walk_stop x i p s t h k e =
-      ap (λ ys. placed (one_by_one r ys f p)) (drop-cons xs i x h ∙ ap (λ y. y ∷ drop (suc i) xs) (sym k)) ∙
-      stop_at f (λ y u. follow (one_by_one r (drop (suc i) xs) f u) (λ ys w. next (y ∷ ys) w)) s t (r x f p) e
-
-  pub walk_end : (i p : ℕ) → length xs ≤ i → placed (one_by_one r (drop i xs) f p) ≡ next tt p
-  walk_end i p h = ap (λ ys. placed (one_by_one r ys f p)) (drop_end xs i h)
+use Rattle.system.proofs.Rows.{dropped}
 
 -- the places of readers in a row
-module _ {X Y B : Type 0} (f : List ℕ) (g : X → Y) (r : Y → Reader B) (xs : List X) where
-  pub places_next : (x : X) (ps : List ℕ) (i p q : ℕ) → i < length xs → i < length ps → x ≡ get_or xs i x → next tt q ≡ placed (r (g x) f p) →
-      front i ps ++ places_of r (map g (drop i xs)) f p ≡ front (i + 1) (set ps i p) ++ places_of r (map g (drop (i + 1) xs)) f q
-  places_next x ps i p q h l k e =
-      ap (λ ys. front i ps ++ places_of r (map g ys) f p) (drop-cons xs i x h ∙ ap (λ y. y ∷ drop (suc i) xs) (sym k)) ∙
-      ap (λ zs. front i ps ++ (p ∷ zs)) (go (r (g x) f p) e) ∙
-      snoc (front i ps) p (places_of r (map g (drop (suc i) xs)) f q) ∙
-      ap (λ zs. zs ++ places_of r (map g (drop (suc i) xs)) f q) (take_set ps i p l) ∙
-      ap (λ j. front j (set ps i p) ++ places_of r (map g (drop j xs)) f q) (sym (add-one i))
+module _ {X B : Type 0} (r : X → Reader B) (xs : List X) (f : List ℕ) where
+  pub places_next : (x : X) (ps : List ℕ) (i p q : ℕ) → at xs i ≡ Some x → next tt q ≡ placed (r x f p) → ps ++ places_of r (drop i xs) f p ≡ (ps ++ (p ∷ [])) ++ places_of r (drop (i + 1) xs) f q
+  places_next x ps i p q h e =
+      ap (λ ys. ps ++ places_of r ys f p) (dropped xs i x h) ∙
+      ap (λ zs. ps ++ (p ∷ zs)) (go (r x f p) e) ∙
+      sym (append_assoc ps (p ∷ []) (places_of r (drop (suc i) xs) f q)) ∙
+      ap (λ j. (ps ++ (p ∷ [])) ++ places_of r (drop j xs) f q) (sym (add-one i))
     where
-      go : (m : Step B) → next tt q ≡ placed m → elim m [ next y t ↦ places_of r (map g (drop (suc i) xs)) f t | stop s t ↦ [] ] ≡ places_of r (map g (drop (suc i) xs)) f q
-      go (next y t) e = let j : t ≡ q = cc in ap (λ z. places_of r (map g (drop (suc i) xs)) f z) j
+      go : (m : Step B) → next tt q ≡ placed m → elim m [ next y t ↦ places_of r (drop (suc i) xs) f t | stop s t ↦ [] ] ≡ places_of r (drop (suc i) xs) f q
+      go (next y t) e = let j : t ≡ q = cc in ap (λ z. places_of r (drop (suc i) xs) f z) j
       go (stop s t) e = let z : ◌≡◌ {A = ℕ} 0 1 = cc in absurd (omega arith)
 
-  pub places_end : (ps : List ℕ) (i p : ℕ) → length xs ≤ i → front i ps ++ places_of r (map g (drop i xs)) f p ≡ front i ps
-  places_end ps i p h = ap (λ ys. front i ps ++ places_of r (map g ys) f p) (drop_end xs i h) ∙ nil (front i ps)
+  pub places_end : (ps : List ℕ) (i p : ℕ) → length xs ≤ i → ps ++ places_of r (drop i xs) f p ≡ ps
+  places_end ps i p h = ap (λ ys. ps ++ places_of r ys f p) (drop_all i xs h) ∙ append-nil ps
 
 -- what is read at each of them
 abbrev pub ReadAt : {X B : Type 0} → List ℕ → (X → Reader B) → List X → List ℕ → ℕ → B → Type 0

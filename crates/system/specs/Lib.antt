@@ -1,4 +1,5 @@
 pub mod Steps
+pub mod Rows
 pub mod Files
 pub mod Bodies
 pub mod Whole

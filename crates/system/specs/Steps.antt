@@ -6,9 +6,8 @@ use Rattle.definitions.specs.Lists.{at, up_to}
 use Rattle.definitions.specs.Alg.{Alg}
 use Rattle.definitions.specs.Systems.{operation}
 use Rattle.definitions.specs.Reading.{Step, next, stop, Reader, ◌>>=◌, ◌>>◌, follow, give, here, take, given, one_by_one}
-use Rattle.definitions.specs.ReadSystem.{Scope, Sorted, of, suits}
+use Rattle.definitions.specs.ReadSystem.{Sorted, of, suits}
 use Rattle.system.specs.declared.term.Operation.{Operation}
-use Rattle.system.specs.declared.term.Scope.{Scope as Lent}
 
 -- a step with its term forgotten
 abbrev pub sorts : Step Sorted → Step ℕ
@@ -26,17 +25,19 @@ placed (stop r q) = stop r q
 abbrev pub skipping : {X : Type 0} → Reader X → Reader (Unit {0})
 skipping r f p = placed (r f p)
 
-abbrev pub scoped : Lent → Scope
-scoped s = record { parameters = s.parameters.now; variables = s.variables.now }
+-- the sort of a name, whose number stands at the place q, where it has one
+abbrev pub named : Option ℕ → ℕ → ℕ → Option ℕ → Reader ℕ
+named o q p need = do
+  s ← given o NoSuchName q
+  suits need s p
+  give s
 
 -- the sort of a name of w bits, where the sorts are those of all names
 abbrev pub read_name : List ℕ → ℕ → ℕ → Option ℕ → Reader ℕ
 read_name names w p need = do
   q ← here
   n ← take w
-  s ← given (at names n) NoSuchName q
-  suits need s p
-  give s
+  named (at names n) q p need
 
 -- a term whose operation is read, and its arguments from q on are not yet
 abbrev pub operated : Alg → (Option ℕ → Reader Sorted) → List ℕ → ℕ → Result Operation Stop → Step Sorted

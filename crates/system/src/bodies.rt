@@ -1,17 +1,17 @@
 //! Checking the bodies of a system's equations, and its start.
 ghost use Rattle.std.specs.Prelude.{◌≡◌, ℕ, ◌<◌, ◌≤◌, map, length, take as front, IfOk};
 ghost use Rattle.definitions.specs.Reading.{one_by_one as each};
-ghost use Rattle.definitions.specs.ReadSystem.{read_of, read_target, read_occurrence, read_clause, read_body, read_value_of};
+ghost use Rattle.definitions.specs.ReadSystem.{read_of, read_target, read_occurrence, read_clause, read_body, read_value_of, scope};
 ghost use Rattle.bits.specs.Told.{Reads};
 ghost use Rattle.rows.specs.Listed.{listed};
-ghost use Rattle.system.specs.Steps.{skipping, scoped};
+ghost use Rattle.system.specs.Steps.{skipping};
 ghost use Rattle.system.specs.Files.{kept_header};
-ghost use Rattle.system.specs.Bodies.{read_in_scope, places_of, padded};
+ghost use Rattle.system.specs.Bodies.{places_of, padded};
 
 use crate::DEPTH;
-use crate::header::{Header, Quantified};
+use crate::header::Header;
 use crate::outline::Equation;
-use crate::term::{Checker, Scope};
+use crate::term::Checker;
 use algebra::Algebra;
 use bits::Cursor;
 use faults::{Reason, Stop};
@@ -34,14 +34,14 @@ pub(crate) fn read_target(headers: &[Header], cursor: &mut Cursor) -> Result<(u8
 
 impl<'a, G: Algebra> Checker<'a, G> {
     fn check_of(&self, cursor: &mut Cursor, sort: u8) -> Result<(), Stop>
-        ensures { Reads (λ x. x) (skipping (read_of (G.meaning self.now.alg.now) (scoped self.now.scope) sort)) cursor.old cursor.new result }
+        ensures { Reads (λ x. x) (skipping (read_of (G.meaning self.now.alg.now) (scope (kept_header self.now.header.now)) sort)) cursor.old cursor.new result }
     {
         self.check_term(cursor, DEPTH, Some(sort))?;
         Ok(())
     }
 
     fn check_occurrence(&self, cursor: &mut Cursor) -> Result<(), Stop>
-        ensures { Reads (λ x. x) (skipping (read_occurrence (G.meaning self.now.alg.now) (map kept_header self.now.headers.now) (scoped self.now.scope))) cursor.old cursor.new result }
+        ensures { Reads (λ x. x) (skipping (read_occurrence (G.meaning self.now.alg.now) (map kept_header self.now.headers.now) (scope (kept_header self.now.header.now)))) cursor.old cursor.new result }
     {
         let (_, header) = read_target(self.headers, cursor)?;
         for sort in header.sorts.as_slice() {
@@ -51,7 +51,7 @@ impl<'a, G: Algebra> Checker<'a, G> {
     }
 
     fn check_clause(&self, cursor: &mut Cursor) -> Result<(), Stop>
-        ensures { Reads (λ x. x) (skipping (read_clause (G.meaning self.now.alg.now) (map kept_header self.now.headers.now) (scoped self.now.scope))) cursor.old cursor.new result }
+        ensures { Reads (λ x. x) (skipping (read_clause (G.meaning self.now.alg.now) (map kept_header self.now.headers.now) (scope (kept_header self.now.header.now)))) cursor.old cursor.new result }
     {
         self.check_of(cursor, 0)?;
         let more = cursor.field(3)?;
@@ -62,7 +62,7 @@ impl<'a, G: Algebra> Checker<'a, G> {
     }
 
     fn check_body(&self, cursor: &mut Cursor) -> Result<(), Stop>
-        ensures { Reads (λ x. x) (read_in_scope (G.meaning self.now.alg.now) (map kept_header self.now.headers.now) (scoped self.now.scope)) cursor.old cursor.new result }
+        ensures { Reads (λ x. x) (skipping (read_body (G.meaning self.now.alg.now) (map kept_header self.now.headers.now) (kept_header self.now.header.now))) cursor.old cursor.new result }
     {
         self.check_of(cursor, 0)?;
         let count = cursor.field(4)?;
@@ -73,41 +73,10 @@ impl<'a, G: Algebra> Checker<'a, G> {
     }
 }
 
-fn sorts_of(variables: &Row<Quantified, 3>) -> Row<u8, 3>
-    ensures { listed result ≡ map (λ q. q.sort) (listed variables.now) }
-{
-    let mut sorts = Row::new(0);
-    for variable in variables.as_slice() {
-        sorts.push(variable.sort).unwrap();
-    }
-    sorts
-}
-
-fn check_equation<'a, G: Algebra>(
+/// The equations with the places of their bodies.
+pub(crate) fn check_bodies<'a, G: Algebra>(
     alg: &'a G,
     headers: &'a [Header],
-    header: &'a Header,
-    cursor: &mut Cursor,
-) -> Result<(), Stop>
-    ensures { Reads (λ x. x) (skipping (read_body (G.meaning alg.now) (map kept_header headers.now) (kept_header header.now))) cursor.old cursor.new result }
-{
-    let variables = sorts_of(&header.quantified);
-    let scope = Scope {
-        parameters: header.sorts.as_slice(),
-        variables: variables.as_slice(),
-    };
-    let checker = Checker {
-        alg,
-        headers,
-        scope,
-    };
-    checker.check_body(cursor)
-}
-
-/// The equations with the places of their bodies.
-pub(crate) fn check_bodies<G: Algebra>(
-    alg: &G,
-    headers: &[Header],
     cursor: &mut Cursor,
 ) -> Result<Row<Equation, 31>, Stop>
     requires { length headers.now ≤ 31 }
@@ -119,12 +88,15 @@ pub(crate) fn check_bodies<G: Algebra>(
         body: 0,
     });
     for header in headers {
-        let equation = Equation {
-            header: *header,
-            body: cursor.at,
+        let body = cursor.at;
+        let checker = Checker {
+            alg,
+            headers,
+            header,
         };
-        check_equation(alg, headers, header, cursor)?;
-        equations.push(equation).unwrap();
+        checker.check_body(cursor)?;
+        let header = *header;
+        equations.push(Equation { header, body }).unwrap();
     }
     Ok(equations)
 }

@@ -5,7 +5,7 @@ ghost use Rattle.std.proofs.Common.{rules};
 ghost use Rattle.system.specs.Instances.{same_instance};
 
 /// An equation together with values for its parameters, and zeros in the unused places.
-#[derive(Clone, Copy)]
+#[derive(Clone, Copy, Eq, Debug)]
 pub struct Instance {
     pub equation: u8,
     pub values: [u8; 15],

@@ -1,29 +1,23 @@
 //! Checking terms: kinds, numbers, depths and sorts.
-ghost use Rattle.std.specs.Prelude.{◌≡◌, ℕ, ◌≤◌, List, Option};
+ghost use Rattle.std.specs.Prelude.{◌≡◌, ℕ, List, Option};
 ghost use Rattle.definitions.specs.Alg.{Alg};
 ghost use Rattle.definitions.specs.Reading.{Reader};
-ghost use Rattle.definitions.specs.ReadSystem.{Sorted, suits, read_value, read_operation, read_term, Scope as Names};
+ghost use Rattle.definitions.specs.ReadSystem.{Sorted, suits, read_value, read_operation, read_term, scope, Scope as Names};
 ghost use Rattle.bits.specs.Told.{told, Reads};
-ghost use Rattle.system.specs.Steps.{sort_only, read_name, scoped, operated};
+ghost use Rattle.system.specs.Steps.{sort_only, named, read_name, operated};
+ghost use Rattle.system.specs.Files.{kept_header};
 
 use crate::header::Header;
 use algebra::Algebra;
 use bits::Cursor;
 use faults::{Reason, Stop};
 
-/// The sorts of the parameters and of the quantified variables that a term can name.
-#[derive(Clone, Copy)]
-pub struct Scope<'a> {
-    pub parameters: &'a [u8],
-    pub variables: &'a [u8],
-}
-
-/// What a body can name: the algebra's sorts and operations, the equations, and the scope.
+/// What a body can name: the algebra's sorts and operations, the equations, and its own header's parameters and variables.
 #[derive(Drop)]
 pub struct Checker<'a, G> {
     pub alg: &'a G,
     pub headers: &'a [Header],
-    pub scope: Scope<'a>,
+    pub header: &'a Header,
 }
 
 /// An operation before its arguments.
@@ -48,41 +42,57 @@ fn suit(need: Option<u8>, sort: u8, place: usize) -> Result<(), Stop>
     }
 }
 
-// A parameter or variable by its number in some bits, of the term at `start`.
-fn check_name(
-    sorts: &[u8],
-    width: u32,
-    cursor: &mut Cursor,
-    start: usize,
-    need: Option<u8>,
-) -> Result<u8, Stop>
-    requires { width ≤ 32 }
-    ensures { Reads (λ s. s) (read_name sorts.now width start need) cursor.old cursor.new result }
+// The sort of a parameter or variable, whose number stands at the place, of the term at `start`.
+fn check_name(sort: Option<u8>, place: usize, start: usize, need: Option<u8>) -> Result<u8, Stop>
+    ensures { (f : List ℕ) (p : ℕ) → told (λ s. s) p result ≡ named sort place start need f p }
 {
-    let place = cursor.at;
-    let number = cursor.field(width)?;
-    let Some(sort) = sorts.get(number as usize) else {
-        return Err(Stop {
-            reason: Reason::NoSuchName,
-            place,
-        });
-    };
-    suit(need, *sort, start)?;
-    Ok(*sort)
+    let sort = sort.ok_or(Stop {
+        reason: Reason::NoSuchName,
+        place,
+    })?;
+    suit(need, sort, start)?;
+    Ok(sort)
 }
 
 impl<'a, G: Algebra> Checker<'a, G> {
+    fn check_parameter(
+        &self,
+        cursor: &mut Cursor,
+        start: usize,
+        need: Option<u8>,
+    ) -> Result<u8, Stop>
+        ensures { Reads (λ s. s) (read_name (scope (kept_header self.now.header.now)).parameters 4 start need) cursor.old cursor.new result }
+    {
+        let place = cursor.at;
+        let number = cursor.field(4)? as usize;
+        let sorts = self.header.sorts.as_slice();
+        check_name(sorts.get(number).copied(), place, start, need)
+    }
+
+    fn check_variable(
+        &self,
+        cursor: &mut Cursor,
+        start: usize,
+        need: Option<u8>,
+    ) -> Result<u8, Stop>
+        ensures { Reads (λ s. s) (read_name (scope (kept_header self.now.header.now)).variables 2 start need) cursor.old cursor.new result }
+    {
+        let place = cursor.at;
+        let number = cursor.field(2)? as usize;
+        let variables = self.header.quantified.as_slice();
+        let sort = variables.get(number).map(|variable| variable.sort);
+        check_name(sort, place, start, need)
+    }
+
     fn check_value(&self, cursor: &mut Cursor, start: usize, need: Option<u8>) -> Result<u8, Stop>
         ensures { (c : Names) (part : Option ℕ → Reader Sorted) → Reads (λ s. s) (sort_only (read_value (G.meaning self.now.alg.now) c part start need)) cursor.old cursor.new result }
     {
-        let place = cursor.at;
-        let sort = cursor.field(4)? as u8;
-        let Some(size) = self.alg.size(sort) else {
-            return Err(Stop {
-                reason: Reason::NoSuchSort,
-                place,
-            });
+        let missing = Stop {
+            reason: Reason::NoSuchSort,
+            place: cursor.at,
         };
+        let sort = cursor.field(4)? as u8;
+        let size = self.alg.size(sort).ok_or(missing)?;
         suit(need, sort, start)?;
         cursor.field_below(8, size as u32, Reason::ValueTooLarge)?;
         Ok(sort)
@@ -115,7 +125,7 @@ impl<'a, G: Algebra> Checker<'a, G> {
         depth: u8,
         need: Option<u8>,
     ) -> Result<u8, Stop>
-        ensures { Reads (λ s. s) (sort_only (read_term (G.meaning self.now.alg.now) (scoped self.now.scope) depth need)) cursor.old cursor.new result }
+        ensures { Reads (λ s. s) (sort_only (read_term (G.meaning self.now.alg.now) (scope (kept_header self.now.header.now)) depth need)) cursor.old cursor.new result }
     {
         let start = cursor.at;
         let kind = cursor.field(3)?;
@@ -126,8 +136,8 @@ impl<'a, G: Algebra> Checker<'a, G> {
             });
         }
         match kind {
-            0 => check_name(self.scope.parameters, 4, cursor, start, need),
-            1 => check_name(self.scope.variables, 2, cursor, start, need),
+            0 => self.check_parameter(cursor, start, need),
+            1 => self.check_variable(cursor, start, need),
             2 => self.check_value(cursor, start, need),
             3 => {
                 let o = self.check_operation(cursor, start, need)?;
@@ -138,7 +148,7 @@ impl<'a, G: Algebra> Checker<'a, G> {
             }
             4..=6 => {
                 suit(need, 0, start)?;
-                let count = if kind == 4 { 1 } else { 2 };
+                let count: u8 = if kind == 4 { 1 } else { 2 };
                 for _ in 0..count {
                     self.check_term(cursor, depth - 1, Some(0))?;
                 }
