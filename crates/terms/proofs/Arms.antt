@@ -4,12 +4,11 @@ use Rattle.std.proofs.lemmas.Bool.{ltb-true, ltb-false}
 use Rattle.std.specs.Option.{option_map}
 use Rattle.definitions.specs.Lists.{bind}
 use Rattle.definitions.specs.Alg.{Alg, Lawful}
-use Rattle.definitions.specs.Systems.{Kind, Term, Terms, node, none, more}
-use Rattle.terms.specs.declared.view.View.{View}
+use Rattle.definitions.specs.Systems.{Kind, Terms, node}
 use Rattle.terms.specs.declared.view.Kind.{Kind as ReadKind}
 use Rattle.terms.specs.declared.view.Opening.{Opening}
-use Rattle.terms.specs.Shapes.{Shape, opening, row, shape, what, behind, standing}
-use Rattle.terms.specs.Shown.{kind_of, opening_of, shown, cons}
+use Rattle.terms.specs.Shapes.{opening, row, shape, what, standing}
+use Rattle.terms.specs.Shown.{kind_of, opening_of}
 
 what_node : (k : Kind) (o : Option (Terms × ℕ)) → what (bind o (λ xs. Some (node k xs.0, xs.1))) ≡ option_map (node k) (what o)
 what_node k None = refl

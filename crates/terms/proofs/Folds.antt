@@ -1,11 +1,9 @@
 -- What lists that tell the same know, and where a term stands.
-use Rattle.std.proofs.Common.{◌≡◌, ℕ, zero, suc, ◌≤◌, List, [], ◌∷◌, length, get_or, Some, None, Option, refl, ap, ◌∙◌, arith}
-use Rattle.std.specs.Option.{option_map}
+use Rattle.std.proofs.Common.{◌≡◌, ℕ, List, Some, None, Option, refl, arith}
 use Rattle.definitions.specs.Alg.{Alg}
-use Rattle.definitions.specs.Systems.{Kind, parameter, variable, value, operation, not, and, or, equal, Term, node, none, more, fold}
+use Rattle.definitions.specs.Systems.{Kind, parameter, variable, value, operation, not, and, or, equal}
 use Rattle.definitions.specs.Values.{kind_known}
 use Rattle.terms.specs.Shapes.{what, behind}
-use Rattle.terms.specs.Shown.{cons}
 use Rattle.terms.specs.Known.{Alike}
 
 -- lists that tell the same know the same

@@ -1,4 +1,4 @@
-use Rattle.std.proofs.Common.{◌≡◌, ◌<◌, ◌≤◌, length, sym, ap, ◌∙◌, arith, rules}
+use Rattle.std.proofs.Common.{◌≡◌, length, sym, ap, ◌∙◌, arith, rules}
 use Rattle.definitions.specs.Lists.{bind}
 use Rattle.terms.proofs.Wholes.{gathered_first, gathered_next, gathered_none, gathered_all}
 use Rattle.terms.proofs.value.apply.Goals as goal
