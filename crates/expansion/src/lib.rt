@@ -2,19 +2,19 @@
 
 #![tactic(auto)]
 
-ghost use Rattle.std.specs.Prelude.{◌≡◌, ◌≤◌, ◌++◌, length, drop};
 ghost use Rattle.expansion.specs.Fronts.{Expands};
 
 mod body;
 mod draft;
 
 use algebra::Algebra;
+use bits::deliver;
 use body::write_variable;
-use draft::Draft;
+use draft::{Draft, Unfinished};
 use faults::{ExpandFault, Reason};
-use firstcome::FirstCome;
 use system::instance::Instance;
-use system::reading::{Outline, read};
+use system::reading::read;
+use system::walk::Accepted;
 
 /// The most instances.
 pub const INSTANCES: usize = 4096;
@@ -29,53 +29,38 @@ pub struct Expansion {
     pub variables: usize,
 }
 
-// The variables of all instances that come, the start's first; none where more come than the list has places.
+// The variables of all instances that come, the start's first.
 fn write_variables<G: Algebra>(
-    alg: &G,
-    outline: &Outline,
-    file: &[u8],
-    list: &mut FirstCome<Instance>,
+    accepted: &Accepted<G>,
     draft: &mut Draft,
-) -> Option<()> {
-    list.come(outline.start)?;
+) -> Result<(), Unfinished> {
+    draft.list.come(accepted.outline.start).ok_or(Unfinished)?;
     draft.put(0, 12);
     for k in 0..INSTANCES {
-        let Some(instance) = list.get(k) else {
-            return Some(());
+        let Some(instance) = draft.list.get(k) else {
+            return Ok(());
         };
-        write_variable(alg, outline, file, instance, list, draft)?;
+        write_variable(accepted, &instance, draft)?;
     }
-    Some(())
+    Ok(())
 }
 
 // The Boolean file in a buffer of its own.
 fn draft_file<G: Algebra>(
-    alg: &G,
-    outline: &Outline,
-    file: &[u8],
+    accepted: &Accepted<G>,
     work: &mut [Instance],
     buffer: &mut [u8],
 ) -> Result<Expansion, ExpandFault> {
     let places = work.len().min(INSTANCES);
-    let mut list = FirstCome::new(&mut work[0..places]);
-    let mut draft = Draft::new(buffer);
-    let Some(()) = write_variables(alg, outline, file, &mut list, &mut draft) else {
-        return Err(ExpandFault::Refused(Reason::TooManyInstances));
-    };
-    let variables = list.len;
-    let Some(len) = draft.close(variables) else {
-        return Err(ExpandFault::Refused(Reason::BooleanTooLong));
-    };
-    Ok(Expansion { len, variables })
-}
-
-// Copies `part` to the front of `out`.
-fn copy(out: &mut [u8], part: &[u8])
-    requires { length part.now ≤ length out.old }
-    ensures { out.new ≡ part.now ++ drop (length part.now) out.old }
-{
-    let n = part.len();
-    out[0..n].copy_from_slice(part);
+    let mut draft = Draft::new(&mut work[0..places], buffer);
+    write_variables(accepted, &mut draft).or(Err(ExpandFault::Refused(Reason::TooManyInstances)))?;
+    let len = draft
+        .close()
+        .ok_or(ExpandFault::Refused(Reason::BooleanTooLong))?;
+    Ok(Expansion {
+        len,
+        variables: draft.list.len,
+    })
 }
 
 /// Writes the Boolean file of the system in `file` to the front of `out`.
@@ -88,12 +73,15 @@ pub fn expand<G: Algebra>(
     ensures { Expands out.old out.new result }
 {
     let outline = read(alg, file)?;
+    let accepted = Accepted {
+        alg,
+        outline: &outline,
+        file,
+    };
     let mut buffer = [0u8; LONGEST_BOOLEAN];
-    let expansion = draft_file(alg, &outline, file, work, &mut buffer)?;
-    let len = expansion.len;
-    if len > out.len() || len > LONGEST_BOOLEAN {
-        return Err(ExpandFault::Refused(Reason::BooleanTooLong));
-    }
-    copy(out, &buffer[0..len]);
+    let expansion = draft_file(&accepted, work, &mut buffer)?;
+    let too_long = ExpandFault::Refused(Reason::BooleanTooLong);
+    let boolean = buffer.get(0..expansion.len).ok_or(too_long)?;
+    deliver(out, boolean).or(Err(too_long))?;
     Ok(expansion)
 }

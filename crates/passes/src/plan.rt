@@ -1,32 +1,55 @@
 //! What a pass makes of each equation and each parameter.
 
+/// What becomes of a parameter.
+#[derive(Clone, Copy, PartialEq, Eq, Debug)]
+pub enum ParameterChange {
+    /// It stays.
+    Stays,
+    /// It goes, with its header entry, its arguments and its starting value.
+    Goes,
+    /// It goes too, and this value takes its place in terms.
+    Becomes(u8),
+}
+
 /// What becomes of an equation.
-#[derive(Clone, Copy)]
+#[derive(Clone, Copy, PartialEq, Eq, Debug)]
+pub enum EquationChange {
+    /// It stays.
+    Stays,
+    /// It becomes bare: no quantified variables, h false, no clauses.
+    Bare,
+    /// It goes.
+    Goes,
+}
+
+/// What becomes of an equation and its parameters.
+#[derive(Clone, Copy, PartialEq, Eq, Debug)]
 pub struct Change {
-    /// The equation stays.
-    pub kept: bool,
-    /// The equation becomes bare: no quantified variables, h false, no clauses.
-    pub bare: bool,
-    /// Which parameters stay: their header entries, arguments and starting values.
-    pub stays: [bool; 15],
-    /// The values put in the place of parameters.
-    pub values: [Option<u8>; 15],
+    pub equation: EquationChange,
+    pub parameters: [ParameterChange; 15],
 }
 
 impl Change {
     /// The equation stays as it is.
     pub fn none() -> Change {
         Change {
-            kept: true,
-            bare: false,
-            stays: [true; 15],
-            values: [None; 15],
+            equation: EquationChange::Stays,
+            parameters: [ParameterChange::Stays; 15],
         }
+    }
+
+    /// How many of the first n parameters stay: the new number of the one numbered n.
+    pub fn number_of(&self, n: usize) -> u32 {
+        self.parameters
+            .iter()
+            .take(n)
+            .filter(|change| **change == ParameterChange::Stays)
+            .count() as u32
     }
 }
 
 /// What becomes of a system.
-#[derive(Clone, Copy)]
+#[derive(Clone, Copy, PartialEq, Eq, Debug)]
 pub struct Plan {
     /// Terms with a known value become value terms, and clauses with a false guard go.
     pub fold: bool,
@@ -41,26 +64,17 @@ impl Plan {
             equations: [Change::none(); 31],
         }
     }
+
+    /// How many of the first n equations do not go: the new number of the one numbered n.
+    pub fn number_of(&self, n: usize) -> u32 {
+        self.equations
+            .iter()
+            .take(n)
+            .filter(|change| change.equation != EquationChange::Goes)
+            .count() as u32
+    }
 }
 
-// How many of the first n are true: the new number of one that stays.
-pub(crate) fn number_among(stays: &[bool], n: usize) -> u8 {
-    let mut count = 0u8;
-    for i in 0..n.min(stays.len()) {
-        if stays[i] && count < 255 {
-            count += 1;
-        }
-    }
-    count
-}
-
-// The new number of the equation numbered n.
-pub(crate) fn renumbered(plan: &Plan, n: u8) -> u8 {
-    let mut count = 0u8;
-    for i in 0..n {
-        if i < 31 && plan.equations[i as usize].kept {
-            count += 1;
-        }
-    }
-    count
-}
+/// A walk does not find what every accepted file has.
+#[derive(Clone, Copy, PartialEq, Eq, Debug)]
+pub struct Missing;

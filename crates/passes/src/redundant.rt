@@ -1,170 +1,161 @@
 //! R: parameters that reach no mark are removed. A mark is an occurrence in h or in a guard, and a parameter points to
 //! each parameter in whose argument it occurs.
 use crate::Pass;
-use crate::plan::Plan;
-use crate::rewrite::write_planned;
+use crate::plan::{Change, EquationChange, Missing, ParameterChange, Plan};
+use crate::rewrite::apply_planned;
 use algebra::Algebra;
 use faults::PassFault;
 use firstcome::FirstCome;
 use system::DEPTH;
 use system::occur::occurs;
-use system::reading::{Outline, read};
-use system::view::View;
-use system::walk::{OccurrenceAt, end_of_clause, open_body, open_clause, open_occurrence};
+use system::reading::Equation;
+use system::walk::{Accepted, OccurrenceAt};
 
 /// The pass R.
-#[derive(Clone, Copy)]
+#[derive(Clone, Copy, PartialEq, Eq, Debug)]
 pub struct Redundant {}
 
 /// A parameter by its equation's number and its own.
-#[derive(Clone, Copy, PartialEq, Eq)]
+#[derive(Clone, Copy, PartialEq, Eq, Debug)]
 pub struct Parameter {
-    pub equation: u8,
-    pub index: u8,
+    pub equation: usize,
+    pub index: usize,
+}
+
+/// An equation with its number.
+#[derive(Clone, Copy)]
+struct Numbered<'a> {
+    number: usize,
+    equation: &'a Equation,
 }
 
 // The parameters of the equation that occur in the term at the place come.
 fn occurring_come<G: Algebra>(
-    alg: &G,
-    equation: u8,
-    count: u8,
-    file: &[u8],
+    accepted: &Accepted<G>,
+    equation: &Numbered,
     at: usize,
     list: &mut FirstCome<Parameter>,
-) -> Option<()> {
-    for index in 0..count {
-        if occurs(alg, View { bytes: file, at }, index, DEPTH) {
-            list.come(Parameter { equation, index })?;
+) -> Result<(), Missing> {
+    for index in 0..equation.equation.header.sorts.len {
+        if occurs(accepted.alg, accepted.view(at), index as u8, DEPTH) {
+            let parameter = Parameter {
+                equation: equation.number,
+                index,
+            };
+            list.come(parameter).ok_or(Missing)?;
         }
     }
-    Some(())
+    Ok(())
 }
 
 // The marked parameters of the equation come.
 fn marked_come<G: Algebra>(
-    alg: &G,
-    outline: &Outline,
-    equation: u8,
-    file: &[u8],
+    accepted: &Accepted<G>,
+    equation: &Numbered,
     list: &mut FirstCome<Parameter>,
-) -> Option<()> {
-    if equation >= outline.count {
-        return None;
-    }
-    let count = outline.headers[equation as usize].count;
-    let body = open_body(alg, file, outline.bodies[equation as usize])?;
-    occurring_come(alg, equation, count, file, body.h, list)?;
+) -> Result<(), Missing> {
+    let body = accepted.open_body(equation.equation.body).ok_or(Missing)?;
+    occurring_come(accepted, equation, body.h, list)?;
     let mut next = body.next;
-    for _i in 0..body.count {
-        occurring_come(alg, equation, count, file, next, list)?;
-        next = end_of_clause(alg, outline, file, next)?;
+    for _ in 0..body.count {
+        occurring_come(accepted, equation, next, list)?;
+        next = accepted.end_of_clause(next).ok_or(Missing)?;
     }
-    Some(())
+    Ok(())
 }
 
 // The parameters that occur in an argument for one that came come.
 fn feeding_come<G: Algebra>(
-    alg: &G,
-    equation: u8,
-    count: u8,
-    occurrence: OccurrenceAt,
-    file: &[u8],
+    accepted: &Accepted<G>,
+    equation: &Numbered,
+    occurrence: &OccurrenceAt,
     list: &mut FirstCome<Parameter>,
-) -> Option<()> {
-    for index in 0..occurrence.count {
-        if index < 15
-            && list
-                .find(&Parameter {
-                    equation: occurrence.target,
-                    index,
-                })
-                .is_some()
-        {
-            occurring_come(
-                alg,
-                equation,
-                count,
-                file,
-                occurrence.arguments[index as usize],
-                list,
-            )?;
+) -> Result<(), Missing> {
+    for (index, argument) in occurrence.arguments.as_slice().iter().enumerate() {
+        let target = Parameter {
+            equation: occurrence.target as usize,
+            index,
+        };
+        if list.find(&target).is_some() {
+            occurring_come(accepted, equation, *argument, list)?;
         }
     }
-    Some(())
+    Ok(())
 }
 
 // The same for every occurrence of an equation.
 fn pointing_come<G: Algebra>(
-    alg: &G,
-    outline: &Outline,
-    equation: u8,
-    file: &[u8],
+    accepted: &Accepted<G>,
+    equation: &Numbered,
     list: &mut FirstCome<Parameter>,
-) -> Option<()> {
-    if equation >= outline.count {
-        return None;
-    }
-    let count = outline.headers[equation as usize].count;
-    let body = open_body(alg, file, outline.bodies[equation as usize])?;
+) -> Result<(), Missing> {
+    let body = accepted.open_body(equation.equation.body).ok_or(Missing)?;
     let mut next = body.next;
-    for _i in 0..body.count {
-        let clause = open_clause(alg, file, next)?;
+    for _ in 0..body.count {
+        let clause = accepted.open_clause(next).ok_or(Missing)?;
         next = clause.next;
-        for _k in 0..clause.count {
-            let occurrence = open_occurrence(alg, outline, file, next)?;
-            feeding_come(alg, equation, count, occurrence, file, list)?;
+        for _ in 0..clause.count {
+            let occurrence = accepted.open_occurrence(next).ok_or(Missing)?;
+            feeding_come(accepted, equation, &occurrence, list)?;
             next = occurrence.next;
         }
     }
-    Some(())
+    Ok(())
 }
 
 // The parameters that reach a mark come: first the marked ones, then in rounds those that point to one that came.
 fn needed_come<G: Algebra>(
-    alg: &G,
-    outline: &Outline,
-    file: &[u8],
+    accepted: &Accepted<G>,
     list: &mut FirstCome<Parameter>,
-) -> Option<()> {
-    for equation in 0..outline.count {
-        marked_come(alg, outline, equation, file, list)?;
+) -> Result<(), Missing> {
+    let equations = accepted.outline.equations.as_slice();
+    for (number, equation) in equations.iter().enumerate() {
+        marked_come(accepted, &Numbered { number, equation }, list)?;
     }
     // Each round but the last brings one of at most 465 parameters.
     for _round in 0..466 {
         let before = list.len;
-        for equation in 0..outline.count {
-            pointing_come(alg, outline, equation, file, list)?;
+        for (number, equation) in equations.iter().enumerate() {
+            pointing_come(accepted, &Numbered { number, equation }, list)?;
         }
         if list.len == before {
-            return Some(());
+            return Ok(());
         }
     }
-    Some(())
+    Ok(())
+}
+
+// Of the equation's parameters those stay that came.
+fn change_of(equation: usize, list: &FirstCome<Parameter>) -> Change {
+    let mut parameters = [ParameterChange::Stays; 15];
+    for (index, change) in parameters.iter_mut().enumerate() {
+        if list.find(&Parameter { equation, index }).is_none() {
+            *change = ParameterChange::Goes;
+        }
+    }
+    Change {
+        equation: EquationChange::Stays,
+        parameters,
+    }
 }
 
 // Only the parameters that reach a mark stay.
-fn plan_needed<G: Algebra>(alg: &G, outline: &Outline, file: &[u8]) -> Plan {
+fn plan_needed<G: Algebra>(accepted: &Accepted<G>) -> Result<Plan, Missing> {
     let mut room = [Parameter {
         equation: 0,
         index: 0,
     }; 465];
     let mut list = FirstCome::new(&mut room);
-    let _ = needed_come(alg, outline, file, &mut list);
+    needed_come(accepted, &mut list)?;
     let mut plan = Plan::none();
-    for equation in 0..31u8 {
-        for index in 0..15u8 {
-            plan.equations[equation as usize].stays[index as usize] = list
-                .find(&Parameter { equation, index })
-                .is_some();
-        }
+    for (equation, change) in plan.equations.iter_mut().enumerate() {
+        *change = change_of(equation, &list);
     }
-    plan
+    Ok(plan)
 }
 
 impl Pass for Redundant {
     fn apply<G: Algebra>(&self, alg: &G, file: &[u8], out: &mut [u8]) -> Result<usize, PassFault> {
-        let outline = read(alg, file)?;
-        let plan = plan_needed(alg, &outline, file);
-        write_planned(alg, &outline, &plan, file, out)
+        apply_planned(alg, file, out, plan_needed)
     }
 }

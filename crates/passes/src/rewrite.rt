@@ -1,229 +1,138 @@
 //! Writing the file of a system as a plan changes it.
-ghost use Rattle.std.specs.Prelude.{◌≡◌, ◌≤◌, ◌++◌, length, drop};
 ghost use Rattle.passes.specs.Fronts.{Fronts};
 
-use crate::plan::{Plan, number_among, renumbered};
-use crate::written::{Edit, write_term, write_value};
+use crate::folding::folds_to_false;
+use crate::plan::{Change, EquationChange, Missing, ParameterChange, Plan};
+use crate::written::{Edit, write_value};
 use algebra::Algebra;
-use bits::{BitWriter, Full};
+use bits::{BitWriter, Full, deliver};
 use faults::{PassFault, Reason};
-use system::header::{Header, Quantifier, Sign};
-use system::reading::Outline;
-use system::value::{Environment, known_value};
-use system::view::View;
-use system::walk::{end_of_clause, open_body, open_clause, open_occurrence};
-use system::{DEPTH, LONGEST};
+use rows::Row;
+use system::LONGEST;
+use system::header::Header;
+use system::reading::{Equation, read};
+use system::walk::{Accepted, BodyAt};
 
 // A header without the parameters that do not stay, and without quantified variables if it becomes bare.
-fn write_header(
-    writer: &mut BitWriter,
-    header: Header,
-    stays: &[bool; 15],
-    bare: bool,
-) -> Result<(), Full> {
-    let sign = match header.sign {
-        Sign::Least => 0,
-        Sign::Greatest => 1,
-    };
-    writer.put(sign, 1)?;
-    writer.put(number_among(stays, header.count as usize) as u32, 4)?;
-    for k in 0..header.count {
-        if stays[k as usize] {
-            writer.put(header.sorts[k as usize] as u32, 4)?;
+fn write_header(header: &Header, change: &Change, writer: &mut BitWriter) -> Result<(), Full> {
+    writer.put(header.sign as u32, 1)?;
+    writer.put(change.number_of(header.sorts.len), 4)?;
+    for (sort, change) in header.sorts.as_slice().iter().zip(&change.parameters) {
+        if *change == ParameterChange::Stays {
+            writer.put(*sort as u32, 4)?;
         }
     }
-    if bare {
+    if change.equation == EquationChange::Bare {
         return writer.put(0, 2);
     }
-    writer.put(header.number as u32, 2)?;
-    for k in 0..header.number {
-        let quantified = header.quantified[k as usize];
-        let quantifier = match quantified.quantifier {
-            Quantifier::Exists => 0,
-            Quantifier::ForAll => 1,
-        };
-        writer.put(quantifier, 1)?;
+    writer.put(header.quantified.len as u32, 2)?;
+    for quantified in header.quantified.as_slice() {
+        writer.put(quantified.quantifier as u32, 1)?;
         writer.put(quantified.sort as u32, 4)?;
     }
     Ok(())
 }
 
-// An occurrence without the arguments of parameters that do not stay, and the place behind it.
-fn write_occurrence<G: Algebra>(
-    alg: &G,
-    outline: &Outline,
-    plan: &Plan,
-    edit: &Edit,
-    file: &[u8],
-    at: usize,
-    writer: &mut BitWriter,
-) -> Result<usize, Full> {
-    let Some(occurrence) = open_occurrence(alg, outline, file, at) else {
-        return Err(Full {});
-    };
-    writer.put(renumbered(plan, occurrence.target) as u32, 5)?;
-    let stays = plan.equations[occurrence.target as usize].stays;
-    for k in 0..occurrence.count {
-        if stays[k as usize] {
-            write_term(
-                alg,
-                edit,
-                View {
-                    bytes: file,
-                    at: occurrence.arguments[k as usize],
-                },
-                writer,
-                DEPTH,
-            )?;
+impl<'a, G: Algebra> Edit<'a, G> {
+    // An occurrence without the arguments of parameters that do not stay, and the place behind it.
+    fn write_occurrence(&self, at: usize, writer: &mut BitWriter) -> Result<usize, Full> {
+        let occurrence = self.accepted.open_occurrence(at).ok_or(Full)?;
+        let target = occurrence.target as usize;
+        writer.put(self.plan.number_of(target), 5)?;
+        let changes = &self.plan.equations[target].parameters;
+        for (argument, change) in occurrence.arguments.as_slice().iter().zip(changes) {
+            if *change == ParameterChange::Stays {
+                self.write_term(*argument, writer)?;
+            }
         }
+        Ok(occurrence.next)
     }
-    Ok(occurrence.next)
-}
 
-// A clause, and the place behind it.
-fn write_clause<G: Algebra>(
-    alg: &G,
-    outline: &Outline,
-    plan: &Plan,
-    edit: &Edit,
-    file: &[u8],
-    at: usize,
-    writer: &mut BitWriter,
-) -> Result<usize, Full> {
-    let Some(clause) = open_clause(alg, file, at) else {
-        return Err(Full {});
-    };
-    write_term(
-        alg,
-        edit,
-        View {
-            bytes: file,
-            at: clause.guard,
-        },
-        writer,
-        DEPTH,
-    )?;
-    writer.put(clause.count as u32 - 1, 3)?;
-    let mut next = clause.next;
-    for _k in 0..clause.count {
-        next = write_occurrence(alg, outline, plan, edit, file, next, writer)?;
-    }
-    Ok(next)
-}
-
-// Whether the clause at the place goes: its guard is known false though nothing is known.
-fn clause_goes<G: Algebra>(alg: &G, edit: &Edit, file: &[u8], at: usize) -> bool {
-    if !edit.fold {
-        return false;
-    }
-    match known_value(
-        alg,
-        &Environment::unknown(),
-        View { bytes: file, at },
-        DEPTH,
-    ) {
-        Some(value) => value == 0,
-        None => false,
-    }
-}
-
-// How many of the clauses stay.
-fn count_clauses<G: Algebra>(
-    alg: &G,
-    outline: &Outline,
-    edit: &Edit,
-    file: &[u8],
-    at: usize,
-    count: u8,
-) -> Option<u8> {
-    let mut next = at;
-    let mut stay = 0u8;
-    for _k in 0..count {
-        if !clause_goes(alg, edit, file, next) && stay < 255 {
-            stay += 1;
+    // The clause at the place.
+    fn write_clause(&self, at: usize, writer: &mut BitWriter) -> Result<(), Full> {
+        let clause = self.accepted.open_clause(at).ok_or(Full)?;
+        self.write_term(clause.guard, writer)?;
+        writer.put(clause.count as u32 - 1, 3)?;
+        let mut next = clause.next;
+        for _ in 0..clause.count {
+            next = self.write_occurrence(next, writer)?;
         }
-        next = end_of_clause(alg, outline, file, next)?;
+        Ok(())
     }
-    Some(stay)
+
+    // The places of the clauses that stay; where all folds, those whose guard is known false though nothing is known go.
+    fn staying_clauses(&self, body: BodyAt) -> Result<Row<usize, 15>, Full> {
+        let mut clauses = Row::new(0);
+        let mut next = body.next;
+        for _ in 0..body.count {
+            if !self.plan.fold || !folds_to_false(self.accepted, next) {
+                clauses.push(next).or(Err(Full))?;
+            }
+            next = self.accepted.end_of_clause(next).ok_or(Full)?;
+        }
+        Ok(clauses)
+    }
+
+    // The body at the place.
+    fn write_body(&self, at: usize, writer: &mut BitWriter) -> Result<(), Full> {
+        let body = self.accepted.open_body(at).ok_or(Full)?;
+        self.write_term(body.h, writer)?;
+        let clauses = self.staying_clauses(body)?;
+        writer.put(clauses.len as u32, 4)?;
+        for clause in clauses.as_slice() {
+            self.write_clause(*clause, writer)?;
+        }
+        Ok(())
+    }
 }
 
-// The clauses that stay.
-fn write_clauses<G: Algebra>(
-    alg: &G,
-    outline: &Outline,
+// The body of the equation, as it changes.
+fn write_changed<G: Algebra>(
+    accepted: &Accepted<G>,
     plan: &Plan,
-    edit: &Edit,
-    file: &[u8],
-    at: usize,
-    count: u8,
+    equation: &Equation,
+    change: &Change,
     writer: &mut BitWriter,
 ) -> Result<(), Full> {
-    let mut next = at;
-    for _k in 0..count {
-        if clause_goes(alg, edit, file, next) {
-            let Some(end) = end_of_clause(alg, outline, file, next) else {
-                return Err(Full {});
+    match change.equation {
+        EquationChange::Goes => Ok(()),
+        EquationChange::Bare => {
+            write_value(writer, 0, 0)?;
+            writer.put(0, 4)
+        }
+        EquationChange::Stays => {
+            let sorts = equation.header.sorts.as_slice();
+            let edit = Edit {
+                accepted,
+                plan,
+                sorts,
+                change,
             };
-            next = end;
-        } else {
-            next = write_clause(alg, outline, plan, edit, file, next, writer)?;
+            edit.write_body(equation.body, writer)
         }
     }
-    Ok(())
-}
-
-// The body of the equation numbered i.
-fn write_body<G: Algebra>(
-    alg: &G,
-    outline: &Outline,
-    plan: &Plan,
-    file: &[u8],
-    i: usize,
-    writer: &mut BitWriter,
-) -> Result<(), Full> {
-    if i >= 31 {
-        return Err(Full {});
-    }
-    let change = plan.equations[i];
-    if change.bare {
-        write_value(writer, 0, 0)?;
-        return writer.put(0, 4);
-    }
-    let Some(body) = open_body(alg, file, outline.bodies[i]) else {
-        return Err(Full {});
-    };
-    let edit = Edit {
-        fold: plan.fold,
-        change,
-        sorts: outline.headers[i].sorts,
-    };
-    write_term(
-        alg,
-        &edit,
-        View {
-            bytes: file,
-            at: body.h,
-        },
-        writer,
-        DEPTH,
-    )?;
-    let Some(stay) = count_clauses(alg, outline, &edit, file, body.next, body.count) else {
-        return Err(Full {});
-    };
-    writer.put(stay as u32, 4)?;
-    write_clauses(
-        alg, outline, plan, &edit, file, body.next, body.count, writer,
-    )
 }
 
 // The start, without the values of parameters that do not stay.
-fn write_start(outline: &Outline, plan: &Plan, writer: &mut BitWriter) -> Result<(), Full> {
-    let start = outline.start;
-    writer.put(renumbered(plan, start.equation) as u32, 5)?;
-    let stays = plan.equations[start.equation as usize].stays;
-    for k in 0..outline.headers[start.equation as usize].count {
-        if stays[k as usize] {
-            writer.put(start.values[k as usize] as u32, 8)?;
+fn write_start<G: Algebra>(
+    accepted: &Accepted<G>,
+    plan: &Plan,
+    writer: &mut BitWriter,
+) -> Result<(), Full> {
+    let start = accepted.outline.start;
+    let number = start.equation as usize;
+    writer.put(plan.number_of(number), 5)?;
+    let equation = accepted
+        .outline
+        .equations
+        .as_slice()
+        .get(number)
+        .ok_or(Full)?;
+    let change = plan.equations.get(number).ok_or(Full)?;
+    let values = start.values.iter().zip(&change.parameters);
+    for (value, change) in values.take(equation.header.sorts.len) {
+        if *change == ParameterChange::Stays {
+            writer.put(*value as u32, 8)?;
         }
     }
     Ok(())
@@ -231,80 +140,68 @@ fn write_start(outline: &Outline, plan: &Plan, writer: &mut BitWriter) -> Result
 
 // The file of the system as the plan changes it.
 fn write_system<G: Algebra>(
-    alg: &G,
-    outline: &Outline,
+    accepted: &Accepted<G>,
     plan: &Plan,
-    file: &[u8],
     writer: &mut BitWriter,
 ) -> Result<(), Full> {
-    writer.put(renumbered(plan, outline.count) as u32, 5)?;
-    for i in 0..outline.count as usize {
-        let change = plan.equations[i];
-        if change.kept {
-            write_header(writer, outline.headers[i], &change.stays, change.bare)?;
+    let equations = accepted.outline.equations.as_slice();
+    writer.put(plan.number_of(equations.len()), 5)?;
+    for (equation, change) in equations.iter().zip(&plan.equations) {
+        if change.equation != EquationChange::Goes {
+            write_header(&equation.header, change, writer)?;
         }
     }
-    for i in 0..outline.count as usize {
-        if plan.equations[i].kept {
-            write_body(alg, outline, plan, file, i, writer)?;
-        }
+    for (equation, change) in equations.iter().zip(&plan.equations) {
+        write_changed(accepted, plan, equation, change, writer)?;
     }
-    write_start(outline, plan, writer)
+    write_start(accepted, plan, writer)
 }
 
 // The file of the changed system in a buffer of its own, and its length.
 fn draft<G: Algebra>(
-    alg: &G,
-    outline: &Outline,
+    accepted: &Accepted<G>,
     plan: &Plan,
-    file: &[u8],
     buffer: &mut [u8],
 ) -> Result<usize, Full> {
     let mut writer = BitWriter {
         bytes: buffer,
         at: 0,
     };
-    write_system(alg, outline, plan, file, &mut writer)?;
+    write_system(accepted, plan, &mut writer)?;
     Ok(writer.close())
 }
 
-// Copies `part` to the front of `out`.
-fn copy(out: &mut [u8], part: &[u8])
-    requires { length part.now ≤ length out.old }
-    ensures { out.new ≡ part.now ++ drop (length part.now) out.old }
-{
-    let n = part.len();
-    out[0..n].copy_from_slice(part);
-}
-
-// Copies `part` to the front of `out`, if there is room.
-fn deliver(out: &mut [u8], part: &[u8]) -> Result<usize, PassFault>
-    ensures { Fronts out.old out.new result }
-{
-    let n = part.len();
-    if n > out.len() || n > LONGEST {
-        return Err(PassFault::Declined(Reason::ResultTooLong));
-    }
-    copy(out, part);
-    Ok(n)
-}
-
-/// Writes the file of the system as the plan changes it to the front of `out`, and tells its length.
-pub(crate) fn write_planned<G: Algebra>(
-    alg: &G,
-    outline: &Outline,
+// Writes the file of the changed system to the front of `out`, and tells its length.
+fn write_planned<G: Algebra>(
+    accepted: &Accepted<G>,
     plan: &Plan,
-    file: &[u8],
     out: &mut [u8],
-) -> Result<usize, PassFault>
+) -> Result<usize, Full>
     ensures { Fronts out.old out.new result }
 {
     let mut buffer = [0u8; LONGEST];
-    let Ok(len) = draft(alg, outline, plan, file, &mut buffer) else {
-        return Err(PassFault::Declined(Reason::ResultTooLong));
+    let len = draft(accepted, plan, &mut buffer)?;
+    let file = buffer.get(0..len).ok_or(Full)?;
+    deliver(out, file)
+}
+
+/// Reads the file, plans, and writes the file of the changed system to the front of `out`; tells its length.
+pub(crate) fn apply_planned<G: Algebra, P: Fn(&Accepted<G>) -> Result<Plan, Missing>>(
+    alg: &G,
+    file: &[u8],
+    out: &mut [u8],
+    planned: P,
+) -> Result<usize, PassFault>
+    requires { P.IsAlwaysCallable planned }
+    ensures { Fronts out.old out.new result }
+{
+    let outline = read(alg, file)?;
+    let accepted = Accepted {
+        alg,
+        outline: &outline,
+        file,
     };
-    if len > LONGEST {
-        return Err(PassFault::Declined(Reason::ResultTooLong));
-    }
-    deliver(out, &buffer[0..len])
+    // Nothing is missing in an accepted file.
+    let plan = planned(&accepted).unwrap_or(Plan::none());
+    write_planned(&accepted, &plan, out).or(Err(PassFault::Declined(Reason::ResultTooLong)))
 }

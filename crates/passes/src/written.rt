@@ -1,119 +1,141 @@
 //! Writing a term with its parameters renumbered or replaced, or folded.
-use crate::plan::{Change, number_among};
+use crate::plan::{Change, ParameterChange, Plan};
 use algebra::Algebra;
 use bits::{BitWriter, Full};
+use system::DEPTH;
 use system::value::{Environment, known_value};
 use system::view::{Parts, Term, View, read_term};
+use system::walk::Accepted;
 
-/// What becomes of the terms of one equation.
-#[derive(Clone, Copy)]
-pub struct Edit {
-    pub fold: bool,
-    pub change: Change,
-    pub sorts: [u8; 15],
+/// The kind of a term as it is written.
+#[derive(Clone, Copy, PartialEq, Eq, Debug)]
+enum Kind {
+    Parameter = 0,
+    Variable = 1,
+    Value = 2,
+    Operation = 3,
+    Not = 4,
+    And = 5,
+    Or = 6,
+    Equal = 7,
+}
+
+/// An equation that is written anew: the sorts of its parameters, and what becomes of it in the plan.
+#[derive_where(Clone, Copy)]
+pub struct Edit<'a, G> {
+    pub accepted: &'a Accepted<'a, G>,
+    pub plan: &'a Plan,
+    pub sorts: &'a [u8],
+    pub change: &'a Change,
 }
 
 // A value term.
 pub(crate) fn write_value(writer: &mut BitWriter, sort: u8, value: u8) -> Result<(), Full> {
-    writer.put(2, 3)?;
+    writer.put(Kind::Value as u32, 3)?;
     writer.put(sort as u32, 4)?;
     writer.put(value as u32, 8)
-}
-
-// A parameter: its value in its place, or its new number.
-fn write_parameter(writer: &mut BitWriter, edit: &Edit, n: u8) -> Result<(), Full> {
-    if n >= 15 {
-        return Err(Full {});
-    }
-    match edit.change.values[n as usize] {
-        Some(value) => write_value(writer, edit.sorts[n as usize], value),
-        None => {
-            writer.put(0, 3)?;
-            writer.put(number_among(&edit.change.stays, n as usize) as u32, 4)
-        }
-    }
 }
 
 // The sort of a term that has a known value though nothing is known.
 fn sort_of<G: Algebra>(alg: &G, term: Term) -> u8 {
     match term {
         Term::Value { sort, value: _ } => sort,
-        Term::Operation { op, arguments: _ } => match alg.result_sort(op) {
-            Some(sort) => sort,
-            None => 0,
-        },
+        Term::Operation { op, arguments: _ } => alg.result_sort(op).unwrap_or(0),
         _ => 0,
     }
 }
 
-// The value and sort of the term at the view if it folds to a value term.
-fn folded<G: Algebra>(alg: &G, edit: &Edit, term: Term, view: View, depth: u8) -> Option<(u8, u8)> {
-    if !edit.fold {
-        return None;
-    }
-    let value = known_value(alg, &Environment::unknown(), view, depth)?;
-    Some((sort_of(alg, term), value))
-}
-
-// The term at the view, which has depth at most `depth`, as the edit changes it.
-pub(crate) fn write_term<G: Algebra>(
-    alg: &G,
-    edit: &Edit,
-    view: View,
-    writer: &mut BitWriter,
-    depth: u8,
-) -> Result<(), Full> {
-    if depth == 0 {
-        return Err(Full {});
-    }
-    let Some(term) = read_term(alg, view, depth) else {
-        return Err(Full {});
-    };
-    if let Some((sort, value)) = folded(alg, edit, term, view, depth) {
-        return write_value(writer, sort, value);
-    }
-    match term {
-        Term::Parameter(n) => write_parameter(writer, edit, n),
-        Term::Variable(n) => {
-            writer.put(1, 3)?;
-            writer.put(n as u32, 2)
-        }
-        Term::Value { sort, value } => write_value(writer, sort, value),
-        Term::Operation { op, arguments } => {
-            writer.put(3, 3)?;
-            writer.put(op as u32, 6)?;
-            match arguments {
-                Parts::Zero => Ok(()),
-                Parts::One(a) => write_term(alg, edit, a, writer, depth - 1),
-                Parts::Two(a, b) => {
-                    write_term(alg, edit, a, writer, depth - 1)?;
-                    write_term(alg, edit, b, writer, depth - 1)
-                }
-                Parts::Three(a, b, c) => {
-                    write_term(alg, edit, a, writer, depth - 1)?;
-                    write_term(alg, edit, b, writer, depth - 1)?;
-                    write_term(alg, edit, c, writer, depth - 1)
-                }
+impl<'a, G: Algebra> Edit<'a, G> {
+    // A parameter: its value in its place, or its new number.
+    fn write_parameter(&self, n: usize, writer: &mut BitWriter) -> Result<(), Full> {
+        match self.change.parameters.get(n).ok_or(Full)? {
+            ParameterChange::Becomes(value) => write_value(
+                writer,
+                *self.sorts.get(n).ok_or(Full)?,
+                *value,
+            ),
+            _ => {
+                writer.put(Kind::Parameter as u32, 3)?;
+                writer.put(self.change.number_of(n), 4)
             }
         }
-        Term::Not(a) => {
-            writer.put(4, 3)?;
-            write_term(alg, edit, a, writer, depth - 1)
+    }
+
+    // The value and sort of the term at the view if it folds to a value term.
+    fn folded(&self, term: Term, view: View, depth: u8) -> Option<(u8, u8)> {
+        if !self.plan.fold {
+            return None;
         }
-        Term::And(a, b) => {
-            writer.put(5, 3)?;
-            write_term(alg, edit, a, writer, depth - 1)?;
-            write_term(alg, edit, b, writer, depth - 1)
+        let value = known_value(self.accepted.alg, &Environment::unknown(), view, depth)?;
+        Some((sort_of(self.accepted.alg, term), value))
+    }
+
+    // A term up to its parts, which are still to be written.
+    fn write_opening<'b>(&self, term: Term<'b>, writer: &mut BitWriter) -> Result<Parts<'b>, Full> {
+        match term {
+            Term::Parameter(n) => {
+                self.write_parameter(n as usize, writer)?;
+                Ok(Parts::Zero)
+            }
+            Term::Variable(n) => {
+                writer.put(Kind::Variable as u32, 3)?;
+                writer.put(n as u32, 2)?;
+                Ok(Parts::Zero)
+            }
+            Term::Value { sort, value } => {
+                write_value(writer, sort, value)?;
+                Ok(Parts::Zero)
+            }
+            Term::Operation { op, arguments } => {
+                writer.put(Kind::Operation as u32, 3)?;
+                writer.put(op as u32, 6)?;
+                Ok(arguments)
+            }
+            Term::Not(a) => {
+                writer.put(Kind::Not as u32, 3)?;
+                Ok(Parts::One(a))
+            }
+            Term::And(a, b) => {
+                writer.put(Kind::And as u32, 3)?;
+                Ok(Parts::Two(a, b))
+            }
+            Term::Or(a, b) => {
+                writer.put(Kind::Or as u32, 3)?;
+                Ok(Parts::Two(a, b))
+            }
+            Term::Equal(a, b) => {
+                writer.put(Kind::Equal as u32, 3)?;
+                Ok(Parts::Two(a, b))
+            }
         }
-        Term::Or(a, b) => {
-            writer.put(6, 3)?;
-            write_term(alg, edit, a, writer, depth - 1)?;
-            write_term(alg, edit, b, writer, depth - 1)
+    }
+
+    // The term at the view, which has depth at most `depth`.
+    fn write_view(&self, view: View, depth: u8, writer: &mut BitWriter) -> Result<(), Full> {
+        if depth == 0 {
+            return Err(Full);
         }
-        Term::Equal(a, b) => {
-            writer.put(7, 3)?;
-            write_term(alg, edit, a, writer, depth - 1)?;
-            write_term(alg, edit, b, writer, depth - 1)
+        let term = read_term(self.accepted.alg, view, depth).ok_or(Full)?;
+        if let Some((sort, value)) = self.folded(term, view, depth) {
+            return write_value(writer, sort, value);
         }
+        match self.write_opening(term, writer)? {
+            Parts::Zero => Ok(()),
+            Parts::One(a) => self.write_view(a, depth - 1, writer),
+            Parts::Two(a, b) => {
+                self.write_view(a, depth - 1, writer)?;
+                self.write_view(b, depth - 1, writer)
+            }
+            Parts::Three(a, b, c) => {
+                self.write_view(a, depth - 1, writer)?;
+                self.write_view(b, depth - 1, writer)?;
+                self.write_view(c, depth - 1, writer)
+            }
+        }
+    }
+
+    // The term at the place.
+    pub(crate) fn write_term(&self, at: usize, writer: &mut BitWriter) -> Result<(), Full> {
+        self.write_view(self.accepted.view(at), DEPTH, writer)
     }
 }

@@ -15,15 +15,13 @@ use rows::Row;
 fn read_sort<G: Algebra>(alg: &G, cursor: &mut Cursor) -> Result<u8, Stop>
     ensures { Reads (λ s. s) (read_sort (G.meaning alg.now)) cursor.old cursor.new result }
 {
-    let place = cursor.at;
+    let missing = Stop {
+        reason: Reason::NoSuchSort,
+        place: cursor.at,
+    };
     let sort = cursor.field(4)? as u8;
-    match alg.size(sort) {
-        Some(_) => Ok(sort),
-        None => Err(Stop {
-            reason: Reason::NoSuchSort,
-            place,
-        }),
-    }
+    alg.size(sort).ok_or(missing)?;
+    Ok(sort)
 }
 
 fn read_sorts<G: Algebra>(alg: &G, cursor: &mut Cursor, count: u32) -> Result<Row<u8, 15>, Stop>

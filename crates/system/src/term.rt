@@ -87,14 +87,12 @@ impl<'a, G: Algebra> Checker<'a, G> {
     fn check_value(&self, cursor: &mut Cursor, start: usize, need: Option<u8>) -> Result<u8, Stop>
         ensures { (c : Names) (part : Option ℕ → Reader Sorted) → Reads (λ s. s) (sort_only (read_value (G.meaning self.now.alg.now) c part start need)) cursor.old cursor.new result }
     {
-        let place = cursor.at;
-        let sort = cursor.field(4)? as u8;
-        let Some(size) = self.alg.size(sort) else {
-            return Err(Stop {
-                reason: Reason::NoSuchSort,
-                place,
-            });
+        let missing = Stop {
+            reason: Reason::NoSuchSort,
+            place: cursor.at,
         };
+        let sort = cursor.field(4)? as u8;
+        let size = self.alg.size(sort).ok_or(missing)?;
         suit(need, sort, start)?;
         cursor.field_below(8, size as u32, Reason::ValueTooLarge)?;
         Ok(sort)

@@ -20,6 +20,7 @@ use terms::value::{Environment, known_value};
 use terms::view::{View, end_of_term};
 
 /// An accepted file with its outline, over its algebra.
+#[derive_where(Clone, Copy)]
 pub struct Accepted<'a, G> {
     pub alg: &'a G,
     pub outline: &'a Outline,

@@ -14,9 +14,6 @@ use Rattle.system.proofs.Rows.{stopped, skipped_next, skipped_stop, skipped_end}
 use Rattle.system.proofs.Walks.{places_next, places_end}
 use Rattle.system.proofs.bodies.check_bodies.Goals as goal
 
-pub loop-header-init : goal.loop-header-init
-loop-header-init g c = (rw c.new-equations.ensures refl, rw c.new-equations.ensures refl, record { same = refl; rest = refl })
-
 pub returns-in_err-check_body : goal.returns-in_err-check_body
 returns-in_err-check_body g c =
     let hs = map kept_header c.args.headers.now in

@@ -9,9 +9,6 @@ use Rattle.system.proofs.Rows.{stopped, kept_first, kept_next, kept_stop, kept_e
 use Rattle.system.proofs.Fills.{zeros_next, zeros_end}
 use Rattle.system.proofs.bodies.read_values.Goals as goal
 
-pub loop-i-init : goal.loop-i-init
-loop-i-init g c = (refl, kept_first (read_value_of (g.G.Algebra.meaning c.args.alg.now)) c.args.sorts.now c.args.cursor.now c.args.cursor.now.bytes.now refl, refl)
-
 pub returns-in_err-values : goal.returns-in_err-values
 returns-in_err-values g c =
     let e = c.in_err-values.field-0.0 in

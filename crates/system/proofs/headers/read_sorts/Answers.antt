@@ -4,22 +4,11 @@ use Rattle.bits.proofs.InRow.{begun_first, begun_next, begun_stop, begun_end}
 use Rattle.rows.specs.Listed.{listed}
 use Rattle.system.proofs.headers.read_sorts.Goals as goal
 
-pub loop-init : goal.loop-init
-loop-init g c = rw c.new-sorts.ensures (begun_first (read_sort (g.G.Algebra.meaning c.args.alg.now)) c.args.count c.args.cursor.now)
-
 pub returns-in_err-sort : goal.returns-in_err-sort
 returns-in_err-sort g c =
     begun_stop (read_sort (g.G.Algebra.meaning c.args.alg.now)) c.read_sort.new.cursor (λ r. listed r) c.from_residual.result c.in_err-sort.field-0.0 (omega arith) c.loop.invariant c.in_err-sort.ensures c.from_residual.ensures.1
-
-pub unwrap-requires : goal.unwrap-requires
-unwrap-requires g c =
-    let n = c.loop.invariant.count in
-    c.push.ensures.room.1 (omega arith)
 
 pub loop-preserved : goal.loop-preserved
 loop-preserved g c =
     let n = c.loop.invariant.count in
     rw (c.push.ensures.added (omega arith)) (begun_next (read_sort (g.G.Algebra.meaning c.args.alg.now)) c.read_sort.new.cursor c.in_ok-sort.sort (omega arith) c.loop.invariant c.in_ok-sort.ensures)
-
-pub returns : goal.returns
-returns g c = (begun_end (read_sort (g.G.Algebra.meaning c.args.alg.now)) (omega arith) c.loop.invariant, c.loop.invariant.same)
