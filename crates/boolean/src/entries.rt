@@ -10,11 +10,11 @@ pub const LONGEST_BOOLEAN: usize = 65535;
 /// The most variables.
 pub const VARIABLES: usize = 4096;
 
-/// The rank of a variable and the place of its body.
+/// The rank of a variable and the place of its body, in 8 bytes: sweeps go over all the entries, again and again.
 #[derive(Clone, Copy)]
 pub struct Entry {
     pub rank: u8,
-    pub body: usize,
+    pub body: u32,
     ghost small: { rank < 32 },
 }
 

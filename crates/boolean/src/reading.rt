@@ -43,7 +43,7 @@ fn read_entry(
             place,
         });
     }
-    let body = cursor.at;
+    let body = cursor.at as u32;
     read_body(cursor, count, truths, BODY_DEPTH)?;
     variables.signs[rank as usize] = Some(sign);
     let rank = rank as u8;

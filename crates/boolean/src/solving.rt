@@ -64,7 +64,7 @@ impl<'a> Solver<'a> {
         }
         let mut cursor = Cursor {
             bytes: self.file,
-            at: entry.body,
+            at: entry.body as usize,
         };
         let Ok(truth) = read_body(&mut cursor, entries.len() as u32, truths, BODY_DEPTH) else {
             return false;
