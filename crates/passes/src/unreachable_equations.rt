@@ -11,11 +11,17 @@ use system::walk::Accepted;
 #[derive(Clone, Copy, PartialEq, Eq, Debug)]
 pub struct Unreachable {}
 
+/// An equation by its number.
+#[derive(Clone, Copy, PartialEq, Eq, Debug)]
+pub struct EquationNumber {
+    pub index: usize,
+}
+
 // The targets of the occurrences of the body at the place come.
 fn targets_come<G: Algebra>(
     accepted: &Accepted<G>,
     at: usize,
-    list: &mut FirstCome<usize>,
+    list: &mut FirstCome<EquationNumber>,
 ) -> Result<(), Missing> {
     let body = accepted.open_body(at).ok_or(Missing)?;
     let mut next = body.next;
@@ -24,7 +30,10 @@ fn targets_come<G: Algebra>(
         next = clause.next;
         for _ in 0..clause.count {
             let occurrence = accepted.open_occurrence(next).ok_or(Missing)?;
-            list.come(occurrence.target as usize).ok_or(Missing)?;
+            let target = EquationNumber {
+                index: occurrence.target as usize,
+            };
+            list.come(target).ok_or(Missing)?;
             next = occurrence.next;
         }
     }
@@ -34,17 +43,19 @@ fn targets_come<G: Algebra>(
 // The numbers of the equations that are reached come, the start's first.
 fn reached_come<G: Algebra>(
     accepted: &Accepted<G>,
-    list: &mut FirstCome<usize>,
+    list: &mut FirstCome<EquationNumber>,
 ) -> Result<(), Missing> {
     let equations = accepted.outline.equations.as_slice();
-    list.come(accepted.outline.start.equation as usize)
-        .ok_or(Missing)?;
+    let start = EquationNumber {
+        index: accepted.outline.start.equation as usize,
+    };
+    list.come(start).ok_or(Missing)?;
     // Each equation comes once.
     for k in 0..31 {
         let Some(number) = list.get(k) else {
             return Ok(());
         };
-        let equation = equations.get(number).ok_or(Missing)?;
+        let equation = equations.get(number.index).ok_or(Missing)?;
         targets_come(accepted, equation.body, list)?;
     }
     Ok(())
@@ -52,12 +63,12 @@ fn reached_come<G: Algebra>(
 
 // Only the equations that are reached stay.
 fn plan_reachable<G: Algebra>(accepted: &Accepted<G>) -> Result<Plan, Missing> {
-    let mut room = [0; 31];
+    let mut room = [EquationNumber { index: 0 }; 31];
     let mut list = FirstCome::new(&mut room);
     reached_come(accepted, &mut list)?;
     let mut plan = Plan::none();
-    for (number, change) in plan.equations.iter_mut().enumerate() {
-        if list.find(&number).is_none() {
+    for (index, change) in plan.equations.iter_mut().enumerate() {
+        if list.find(&EquationNumber { index }).is_none() {
             change.equation = EquationChange::Goes;
         }
     }
