@@ -12,10 +12,7 @@ use bits::deliver;
 use expansion::{Expansion, expand};
 use faults::{ExpandFault, Halt, PassFault, ReadFault, Reason, SettleFault};
 use passes::Pass;
-use passes::constants::Constants;
-use passes::folding::Fold;
-use passes::redundant::Redundant;
-use passes::unreachable_equations::Unreachable;
+use passes::named::Named;
 use system::instance::Instance;
 use system::reading::read;
 
@@ -73,13 +70,8 @@ impl Bench {
         if self.len == 0 {
             return Err(PassFault::Declined(Reason::BenchEmpty));
         }
-        match letter {
-            'C' => self.run(alg, &Constants {}),
-            'F' => self.run(alg, &Fold {}),
-            'R' => self.run(alg, &Redundant {}),
-            'U' => self.run(alg, &Unreachable {}),
-            _ => Err(PassFault::Declined(Reason::NoSuchName)),
-        }
+        let pass = Named::try_from(letter)?;
+        self.run(alg, &pass)
     }
 
     /// Runs the four passes one after the other, round after round, up to the first round that changes nothing, and tells its number.

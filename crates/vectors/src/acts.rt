@@ -8,10 +8,7 @@ use bench::Bench;
 use expansion::Expansion;
 use faults::{ExpandFault, PassFault};
 use passes::Pass;
-use passes::constants::Constants;
-use passes::folding::Fold;
-use passes::redundant::Redundant;
-use passes::unreachable_equations::Unreachable;
+use passes::named::Named;
 use std::alloc::{AllocError, Global};
 use std::io;
 use system::instance::Instance;
@@ -79,22 +76,6 @@ pub fn run<G: Algebra>(
     }
 }
 
-// The pass of a letter on a file, into a buffer.
-fn apply_letter<G: Algebra>(
-    alg: &G,
-    letter: char,
-    file: &[u8],
-    out: &mut [u8],
-) -> Option<Result<usize, PassFault>> {
-    match letter {
-        'C' => Some(Constants {}.apply(alg, file, out)),
-        'F' => Some(Fold {}.apply(alg, file, out)),
-        'R' => Some(Redundant {}.apply(alg, file, out)),
-        'U' => Some(Unreachable {}.apply(alg, file, out)),
-        _ => None,
-    }
-}
-
 /// Runs the pass of a letter on the file, into a buffer of the length given.
 pub fn apply<G: Algebra>(
     heap: Global,
@@ -103,11 +84,13 @@ pub fn apply<G: Algebra>(
     letter: char,
     room: usize,
 ) -> Result<String, AllocError> {
+    let Ok(pass) = Named::try_from(letter) else {
+        return String::from_str(heap, "no such pass");
+    };
     let mut buffer = vec![in heap; FILLING; room]?;
-    match apply_letter(alg, letter, desk.made(), &mut buffer) {
-        None => String::from_str(heap, "no such pass"),
-        Some(Ok(len)) => result_text(heap, &buffer, len),
-        Some(Err(fault)) => buffer_kept(heap, refused_pass(heap, fault)?, &buffer),
+    match pass.apply(alg, desk.made(), &mut buffer) {
+        Ok(len) => result_text(heap, &buffer, len),
+        Err(fault) => buffer_kept(heap, refused_pass(heap, fault)?, &buffer),
     }
 }
 
