@@ -1,9 +1,8 @@
 -- Terms behind their kinds, with their terms forgotten.
 use Rattle.std.proofs.Common.{◌≡◌, ℕ, zero, suc, ◌-◌, ◌≤◌, List, [], ◌∷◌, map, Some, None, Ok, Option, sym, refl, ap, ◌∙◌, sub-one, arith}
 use Rattle.faults.specs.declared.Reason.{Reason}
-use Rattle.faults.specs.declared.Reason.TheVariants.{TooDeep, NoSuchName}
-use Rattle.faults.specs.declared.Stop.{Stop}
-use Rattle.definitions.specs.Lists.{at, from, up_to}
+use Rattle.faults.specs.declared.Reason.TheVariants.{NoSuchName}
+use Rattle.definitions.specs.Lists.{at, up_to}
 use Rattle.definitions.specs.Alg.{Alg}
 use Rattle.definitions.specs.Systems.{Kind, parameter, variable, operation, not, and, or, equal}
 use Rattle.definitions.specs.Reading.{Step, next, stop, Reader, follow, take, given, repeated, one_by_one}

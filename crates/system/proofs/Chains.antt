@@ -1,15 +1,14 @@
 -- One reader after another, with their values forgotten.
-use Rattle.std.proofs.Common.{◌≡◌, ℕ, zero, suc, ◌+◌, ◌<◌, ◌≤◌, List, [], ◌∷◌, map, length, get_or, take as front, Some, None, Option, Bor, refl, ap, ◌∙◌, add-one, arith}
+use Rattle.std.proofs.Common.{◌≡◌, ℕ, zero, suc, ◌+◌, ◌<◌, ◌≤◌, List, [], ◌∷◌, map, length, get_or, Some, None, Option, Bor, refl, ap, ◌∙◌, add-one, arith}
 use Rattle.std.specs.Option.{option_map}
 use Rattle.std.specs.Slice.{IsItemAt}
 use Rattle.system.specs.declared.header.Quantified.{Quantified as Kept}
 use Rattle.system.specs.Files.{kept_quantified}
-use Rattle.faults.specs.declared.Reason.{Reason}
 use Rattle.faults.specs.declared.Reason.TheVariants.{NoSuchName}
 use Rattle.definitions.specs.Lists.{at, up_to, bind}
 use Rattle.definitions.specs.Alg.{Alg}
-use Rattle.definitions.specs.Reading.{Step, next, stop, Reader, follow, take, given, repeated, one_by_one}
-use Rattle.definitions.specs.Systems.{Term, Equation}
+use Rattle.definitions.specs.Reading.{Step, next, stop, follow, take, given, repeated, one_by_one}
+use Rattle.definitions.specs.Systems.{Equation}
 use Rattle.definitions.specs.ReadSystem.{Scope, Header, scope, read_target, read_of, read_occurrence, read_clause, read_body}
 use Rattle.system.specs.Steps.{placed}
 use Rattle.system.proofs.Rows.{counted}

@@ -1,5 +1,5 @@
 -- Zeros behind the values that are kept.
-use Rattle.std.proofs.Common.{◌≡◌, ℕ, zero, suc, ◌+◌, ◌-◌, ◌<◌, ◌≤◌, List, [], ◌∷◌, ◌++◌, length, take, drop, set, replicate, sym, refl, ap, ◌∙◌, add-one, arith, take-append-drop, length-take-le}
+use Rattle.std.proofs.Common.{◌≡◌, ℕ, zero, suc, ◌+◌, ◌-◌, ◌<◌, ◌≤◌, List, [], ◌∷◌, ◌++◌, length, take, drop, set, replicate, sym, ap, ◌∙◌, add-one, arith, take-append-drop, length-take-le}
 use Rattle.system.specs.Bodies.{padded}
 
 pub zeros_next : (xs : List ℕ) (i n x : ℕ) → drop i xs ≡ replicate (n - i) 0 → i < n → drop (i + 1) (set xs i x) ≡ replicate (n - (i + 1)) 0

@@ -1,7 +1,6 @@
 -- The places of readers in a row, and what is read at each.
-use Rattle.std.proofs.Common.{◌≡◌, ℕ, zero, suc, ◌+◌, ◌<◌, ◌≤◌, List, [], ◌∷◌, ◌++◌, map, length, get_or, take as front, drop, set, Some, None, sym, refl, ap, ◌∙◌, add-one, arith, drop-cons}
+use Rattle.std.proofs.Common.{◌≡◌, ℕ, zero, suc, ◌+◌, ◌≤◌, List, [], ◌∷◌, ◌++◌, length, get_or, drop, Some, None, sym, refl, ap, ◌∙◌, add-one, arith}
 use Rattle.std.proofs.lemmas.List.{append-nil, append_assoc, drop_all}
-use Rattle.faults.specs.declared.Reason.{Reason}
 use Rattle.definitions.specs.Reading.{Step, next, stop, Reader, follow, one_by_one}
 use Rattle.definitions.specs.Lists.{at}
 use Rattle.system.specs.Steps.{placed}

@@ -1,11 +1,11 @@
-use Rattle.std.proofs.Common.{◌≡◌, ◌+◌, [], ◌∷◌, ◌++◌, length, get_or, take, set, sym, refl, ap, ◌∙◌, subst, add-one, arith, length-set}
+use Rattle.std.proofs.Common.{◌≡◌, ◌+◌, length, get_or, take, sym, ap, ◌∙◌, subst, add-one, arith, length-set}
 use Rattle.std.proofs.Math.Seq.{take-suc-set}
 use Rattle.definitions.specs.Reading.{next}
 use Rattle.definitions.specs.ReadSystem.{read_value_of}
 use Rattle.bits.proofs.InRow.{passed}
 use Rattle.system.specs.Rows.{Kept}
 use Rattle.system.proofs.Lists.{at_some}
-use Rattle.system.proofs.Rows.{stopped, kept_first, kept_next, kept_stop, kept_end}
+use Rattle.system.proofs.Rows.{stopped, kept_next, kept_stop, kept_end}
 use Rattle.system.proofs.Fills.{zeros_next, zeros_end}
 use Rattle.system.proofs.bodies.read_values.Goals as goal
 

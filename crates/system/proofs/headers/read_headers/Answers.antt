@@ -1,7 +1,7 @@
-use Rattle.std.proofs.Common.{◌≡◌, ◌<◌, [], ◌∷◌, map, length, arith}
+use Rattle.std.proofs.Common.{[], ◌∷◌, map, arith}
 use Rattle.std.proofs.lemmas.List.{length-map, map-append}
 use Rattle.definitions.specs.ReadSystem.{read_header}
-use Rattle.bits.proofs.InRow.{begun_first, begun_next, begun_stop, begun_end}
+use Rattle.bits.proofs.InRow.{begun_next, begun_stop}
 use Rattle.rows.specs.Listed.{listed}
 use Rattle.system.specs.Files.{kept_header}
 use Rattle.system.proofs.headers.read_headers.Goals as goal

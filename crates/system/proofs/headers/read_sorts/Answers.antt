@@ -1,6 +1,6 @@
-use Rattle.std.proofs.Common.{◌≡◌, ◌<◌, length, arith}
+use Rattle.std.proofs.Common.{arith}
 use Rattle.definitions.specs.ReadSystem.{read_sort}
-use Rattle.bits.proofs.InRow.{begun_first, begun_next, begun_stop, begun_end}
+use Rattle.bits.proofs.InRow.{begun_next, begun_stop}
 use Rattle.rows.specs.Listed.{listed}
 use Rattle.system.proofs.headers.read_sorts.Goals as goal
 
