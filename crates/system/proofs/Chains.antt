@@ -1,5 +1,5 @@
 -- One reader after another, with their values forgotten.
-use Rattle.std.proofs.Common.{◌≡◌, ℕ, zero, suc, ◌+◌, ◌<◌, ◌≤◌, List, [], ◌∷◌, map, length, get_or, Some, None, Option, Bor, refl, ap, ◌∙◌, add-one, arith}
+use Rattle.std.proofs.Common.{◌≡◌, ℕ, suc, ◌+◌, ◌<◌, ◌≤◌, List, [], ◌∷◌, map, length, get_or, Some, None, Option, Bor, refl, ap, ◌∙◌, add-one, arith}
 use Rattle.std.specs.Option.{option_map}
 use Rattle.std.specs.Slice.{IsItemAt}
 use Rattle.system.specs.declared.header.Quantified.{Quantified as Kept}
@@ -12,6 +12,7 @@ use Rattle.definitions.specs.Systems.{Equation}
 use Rattle.definitions.specs.ReadSystem.{Scope, Header, scope, read_target, read_of, read_occurrence, read_clause, read_body}
 use Rattle.system.specs.Steps.{placed}
 use Rattle.system.proofs.Rows.{counted}
+use Rattle.system.proofs.Lists.{at_item, at_none}
 
 pub after : {A B : Type 0} (m : Step A) (k : A → ℕ → Step B) (q : ℕ) (w : Step (Unit {0})) → next tt q ≡ placed m → ((x : A) → w ≡ placed (k x q)) → w ≡ placed (follow m k)
 after (next x t) k q w e h = let i : q ≡ t = cc in h x ∙ ap (λ z. placed (k x z)) i
@@ -23,16 +24,6 @@ exactly m k x q w e h = h ∙ ap (λ z. placed (follow z k)) e
 pub wrapped : {A B : Type 0} (g : A → B) (m : Step A) → placed m ≡ placed (follow m (λ x q. next (g x) q))
 wrapped g (next x q) = refl
 wrapped g (stop r q) = refl
-
-pub at_item : {X Y : Type 0} (g : X → Y) (xs : List X) (i : ℕ) (x : X) → i < length xs → x ≡ get_or xs i x → Some (g x) ≡ at (map g xs) i
-at_item g [] i x h e = absurd (omega arith)
-at_item g (y ∷ xs) zero x h e = ap (λ z. Some (g z)) e
-at_item g (y ∷ xs) (suc i) x h e = at_item g xs i x (omega arith) e
-
-pub at_none : {X Y : Type 0} (g : X → Y) (xs : List X) (i : ℕ) → length xs ≤ i → None ≡ at (map g xs) i
-at_none g [] i h = refl
-at_none g (y ∷ xs) zero h = absurd (omega arith)
-at_none g (y ∷ xs) (suc i) h = at_none g xs i (omega arith)
 
 module _ {X : Type 0} (g : X → Header) (xs : List X) (f : List ℕ) (p i q : ℕ) (e : next i q ≡ take 5 f p) where
   pub target_no : length xs ≤ i → stop NoSuchName p ≡ read_target (map g xs) f p

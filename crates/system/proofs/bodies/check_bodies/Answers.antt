@@ -9,7 +9,7 @@ use Rattle.system.specs.declared.outline.Equation.{Equation}
 use Rattle.system.specs.Bodies.{places_of}
 use Rattle.system.specs.Files.{kept_header}
 use Rattle.system.specs.Steps.{placed}
-use Rattle.system.proofs.Chains.{at_item}
+use Rattle.system.proofs.Lists.{at_item}
 use Rattle.system.proofs.Rows.{stopped, skipped_next, skipped_stop, skipped_end}
 use Rattle.system.proofs.Walks.{places_next, places_end}
 use Rattle.system.proofs.bodies.check_bodies.Goals as goal
