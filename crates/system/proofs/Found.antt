@@ -1,5 +1,5 @@
 -- Bodies, clauses and occurrences that are read are found.
-use Rattle.std.proofs.Common.{◌≡◌, ℕ, zero, suc, ◌+◌, ◌-◌, ◌<◌, ◌≤◌, List, [], ◌∷◌, ◌++◌, map, length, get_or, take as front, Some, None, Option, sym, refl, ap, ◌∙◌, arith, append_assoc, append-nil}
+use Rattle.std.proofs.Common.{◌≡◌, ℕ, zero, suc, ◌+◌, ◌-◌, ◌<◌, ◌≤◌, List, [], ◌∷◌, ◌++◌, length, get_or, take as front, Some, None, Option, sym, refl, ap, ◌∙◌, arith, append_assoc, append-nil}
 use Rattle.faults.specs.declared.Reason.TheVariants.{NoSuchName}
 use Rattle.definitions.specs.Lists.{at, bind}
 use Rattle.definitions.specs.Alg.{Alg}
@@ -18,17 +18,6 @@ pub front_few : {X : Type 0} (n : ℕ) (xs : List X) → length (front n xs) ≤
 front_few zero xs = omega arith
 front_few (suc n) [] = omega arith
 front_few (suc n) (x ∷ xs) = let h : length (front n xs) ≤ n = front_few n xs in omega arith
-
--- the member of a list, where each is told by another
-pub at_item : {X Y : Type 0} (g : X → Y) (xs : List X) (i : ℕ) (x : X) → i < length xs → x ≡ get_or xs i x → Some (g x) ≡ at (map g xs) i
-at_item g [] i x h e = absurd (omega arith)
-at_item g (y ∷ xs) zero x h e = ap (λ z. Some (g z)) e
-at_item g (y ∷ xs) (suc i) x h e = at_item g xs i x (omega arith) e
-
-pub at_none : {X Y : Type 0} (g : X → Y) (xs : List X) (i : ℕ) → length xs ≤ i → None ≡ at (map g xs) i
-at_none g [] i h = refl
-at_none g (y ∷ xs) zero h = absurd (omega arith)
-at_none g (y ∷ xs) (suc i) h = at_none g xs i (omega arith)
 
 abbrev stood : {A : Type 0} → A → ℕ → Option (A × ℕ)
 stood x q = Some (x, q)

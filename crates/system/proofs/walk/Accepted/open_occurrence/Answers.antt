@@ -1,4 +1,4 @@
-use Rattle.std.proofs.Common.{◌≡◌, ℕ, ◌<◌, ◌≤◌, List, length, get_or, Some, None, Option, sym, refl, ap, subst, arith, lit≤}
+use Rattle.std.proofs.Common.{◌≡◌, ◌<◌, ◌≤◌, List, length, get_or, Some, None, Option, sym, refl, ap, subst, arith, lit≤}
 use Rattle.rows.specs.Listed.{listed}
 use Rattle.terms.proofs.Fields.{field_came}
 use Rattle.system.specs.declared.outline.Equation.{Equation}
@@ -6,7 +6,8 @@ use Rattle.system.specs.declared.places.OccurrenceAt.{OccurrenceAt}
 use Rattle.system.specs.Files.{kept_header}
 use Rattle.system.specs.Whole.{kept_headers}
 use Rattle.system.specs.Walks.{OccurrencePlaces, OccurrenceFound}
-use Rattle.system.proofs.Found.{front_few, at_item, at_none, occurrence_no_target, occurrence_at, occurrence_with, occurrence_found}
+use Rattle.system.proofs.Chains.{at_item, at_none}
+use Rattle.system.proofs.Found.{front_few, occurrence_no_target, occurrence_at, occurrence_with, occurrence_found}
 use Rattle.system.proofs.walk.Accepted.open_occurrence.Goals as goal
 
 pub returns-in_err-target-clause-places : goal.returns-in_err-target-clause-places
@@ -73,5 +74,5 @@ returns g c =
     let k = subst (λ (xs : List Equation). x ≡ get_or xs i x) c.as_slice.ensures c.in_ok-equation.ensures.lookup.1 in
     let m = at_item (λ (x : Equation). kept_header x.header) (listed o.equations) i x h k in
     let r = c.in_ok-arguments in
-    let p = occurrence_with a f (kept_headers o) t i u e (kept_header x.header) m (length c.as_slice-sorts.result.now) (ap length c.as_slice-sorts.ensures) (Some (listed r.arguments, r.next)) c.in_ok-arguments.ensures in
+    let p = occurrence_with a f (kept_headers o) t i u e (kept_header x.header) m (length c.as_slice-sorts.result.now) (ap length c.as_slice-sorts.ensures) (Some (listed r.arguments, r.end)) c.in_ok-arguments.ensures in
     record { places = p; found = occurrence_found a f t (kept_headers o) (Some _) p }
