@@ -75,11 +75,11 @@ fn write_inside<G: Algebra>(
         return Ok(());
     }
     let clauses = holding_clauses(accepted, env, body)?;
-    if clauses.len == 0 {
+    if clauses.len() == 0 {
         draft.put_constant(true);
         return Ok(());
     }
-    draft.put_all(clauses.len as u32);
+    draft.put_all(clauses.len() as u32);
     for clause in clauses.as_slice() {
         write_clause(accepted, env, *clause, draft)?;
     }
@@ -95,10 +95,10 @@ fn write_quantified<G: Algebra>(
     body: BodyAt,
     draft: &mut Draft,
 ) -> Result<(), Unfinished> {
-    if level >= variables.len {
+    if level >= variables.len() {
         return write_inside(accepted, &env, body, draft);
     }
-    let variable = variables.items[level];
+    let variable = variables.as_slice()[level];
     let size = accepted.alg.size(variable.sort).ok_or(Unfinished)?;
     match variable.quantifier {
         Quantifier::ForAll => draft.put_all(size as u32),
@@ -133,6 +133,6 @@ pub(crate) fn write_variable<G: Algebra>(
     draft.put(equation.header.sign as u32, 1);
     draft.put(instance.equation as u32, 5);
     let body = accepted.open_body(equation.body).ok_or(Unfinished)?;
-    let env = environment_of(instance, equation.header.sorts.len);
+    let env = environment_of(instance, equation.header.sorts.len());
     write_quantified(accepted, &equation.header.quantified, 0, env, body, draft)
 }

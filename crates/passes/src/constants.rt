@@ -150,7 +150,7 @@ fn know_start(outline: &Outline) -> [Known; 31] {
     if let Some(equation) = outline.equations.as_slice().get(number) {
         let mut values = [None; 15];
         let known = values.iter_mut().zip(&start.values);
-        for (value, start) in known.take(equation.header.sorts.len) {
+        for (value, start) in known.take(equation.header.sorts.len()) {
             *value = Some(*start);
         }
         knowledge[number] = Known::Fresh(values);

@@ -36,7 +36,7 @@ fn occurring_come<G: Algebra>(
     at: usize,
     list: &mut FirstCome<Parameter>,
 ) -> Result<(), Missing> {
-    for index in 0..equation.equation.header.sorts.len {
+    for index in 0..equation.equation.header.sorts.len() {
         if occurs(accepted.alg, accepted.view(at), index as u8, DEPTH) {
             let parameter = Parameter {
                 equation: equation.number,

@@ -16,7 +16,7 @@ use system::walk::{Accepted, BodyAt};
 // A header without the parameters that do not stay, and without quantified variables if it becomes bare.
 fn write_header(header: &Header, change: &Change, writer: &mut BitWriter) -> Result<(), Full> {
     writer.put(header.sign as u32, 1)?;
-    writer.put(change.number_of(header.sorts.len), 4)?;
+    writer.put(change.number_of(header.sorts.len()), 4)?;
     for (sort, change) in header.sorts.as_slice().iter().zip(&change.parameters) {
         if *change == ParameterChange::Stays {
             writer.put(*sort as u32, 4)?;
@@ -25,7 +25,7 @@ fn write_header(header: &Header, change: &Change, writer: &mut BitWriter) -> Res
     if change.equation == EquationChange::Bare {
         return writer.put(0, 2);
     }
-    writer.put(header.quantified.len as u32, 2)?;
+    writer.put(header.quantified.len() as u32, 2)?;
     for quantified in header.quantified.as_slice() {
         writer.put(quantified.quantifier as u32, 1)?;
         writer.put(quantified.sort as u32, 4)?;
@@ -78,7 +78,7 @@ impl<'a, G: Algebra> Edit<'a, G> {
         let body = self.accepted.open_body(at).ok_or(Full)?;
         self.write_term(body.h, writer)?;
         let clauses = self.staying_clauses(body)?;
-        writer.put(clauses.len as u32, 4)?;
+        writer.put(clauses.len() as u32, 4)?;
         for clause in clauses.as_slice() {
             self.write_clause(*clause, writer)?;
         }
@@ -130,7 +130,7 @@ fn write_start<G: Algebra>(
         .ok_or(Full)?;
     let change = plan.equations.get(number).ok_or(Full)?;
     let values = start.values.iter().zip(&change.parameters);
-    for (value, change) in values.take(equation.header.sorts.len) {
+    for (value, change) in values.take(equation.header.sorts.len()) {
         if *change == ParameterChange::Stays {
             writer.put(*value as u32, 8)?;
         }

@@ -72,42 +72,32 @@ impl<'a, G: Algebra> Edit<'a, G> {
 
     // A term up to its parts, which are still to be written.
     fn write_opening<'b>(&self, term: Term<'b>, writer: &mut BitWriter) -> Result<Parts<'b>, Full> {
-        match term {
+        let (kind, parts) = match term {
             Term::Parameter(n) => {
                 self.write_parameter(n as usize, writer)?;
-                Ok(Parts::Zero)
+                return Ok(Parts::Zero);
             }
             Term::Variable(n) => {
                 writer.put(Kind::Variable as u32, 3)?;
                 writer.put(n as u32, 2)?;
-                Ok(Parts::Zero)
+                return Ok(Parts::Zero);
             }
             Term::Value { sort, value } => {
                 write_value(writer, sort, value)?;
-                Ok(Parts::Zero)
+                return Ok(Parts::Zero);
             }
             Term::Operation { op, arguments } => {
                 writer.put(Kind::Operation as u32, 3)?;
                 writer.put(op as u32, 6)?;
-                Ok(arguments)
+                return Ok(arguments);
             }
-            Term::Not(a) => {
-                writer.put(Kind::Not as u32, 3)?;
-                Ok(Parts::One(a))
-            }
-            Term::And(a, b) => {
-                writer.put(Kind::And as u32, 3)?;
-                Ok(Parts::Two(a, b))
-            }
-            Term::Or(a, b) => {
-                writer.put(Kind::Or as u32, 3)?;
-                Ok(Parts::Two(a, b))
-            }
-            Term::Equal(a, b) => {
-                writer.put(Kind::Equal as u32, 3)?;
-                Ok(Parts::Two(a, b))
-            }
-        }
+            Term::Not(a) => (Kind::Not, Parts::One(a)),
+            Term::And(a, b) => (Kind::And, Parts::Two(a, b)),
+            Term::Or(a, b) => (Kind::Or, Parts::Two(a, b)),
+            Term::Equal(a, b) => (Kind::Equal, Parts::Two(a, b)),
+        };
+        writer.put(kind as u32, 3)?;
+        Ok(parts)
     }
 
     // The term at the view, which has depth at most `depth`.

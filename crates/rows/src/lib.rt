@@ -2,7 +2,6 @@
 
 #![tactic(auto)]
 
-mod calls;
 mod row;
 
 pub use row::{NoPlace, Row};

@@ -1,14 +1,16 @@
 //! A row and what it lists.
 ghost use Rattle.std.specs.Prelude.{◌≡◌, ◌≤◌, ⊤};
 
+mod calls;
+
 use std::alloc::AllocError;
 
 /// Up to `N` records in order.
 ///
-/// A row lies in one place of fixed size and is copied as one value, which the library's vectors are not.
+/// Places that are not in use are not seen. A row lies in one place of fixed size and is copied as one value, which the library's vectors are not.
 pub struct Row<T, const N: usize> {
-    pub items: [T; N],
-    pub len: usize,
+    items: [T; N],
+    len: usize,
     ghost within: { len ≤ N },
 }
 

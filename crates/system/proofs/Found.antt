@@ -19,7 +19,6 @@ front_few zero xs = omega arith
 front_few (suc n) [] = omega arith
 front_few (suc n) (x ∷ xs) = let h : length (front n xs) ≤ n = front_few n xs in omega arith
 
--- the member of a list, where each is told by another
 abbrev stood : {A : Type 0} → A → ℕ → Option (A × ℕ)
 stood x q = Some (x, q)
 

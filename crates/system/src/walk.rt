@@ -112,11 +112,11 @@ impl<'a, G: Algebra> Accepted<'a, G> {
         let target = reader.next(5)?;
         let equation = self.outline.equations.as_slice().get(target as usize)?;
         let sorts = equation.header.sorts.as_slice();
-        let (arguments, behind) = self.arguments_at(sorts.len(), reader.at)?;
+        let (arguments, end) = self.arguments_at(sorts.len(), reader.at)?;
         Some(OccurrenceAt {
             target: target as u8,
             arguments,
-            next: behind,
+            next: end,
         })
     }
 

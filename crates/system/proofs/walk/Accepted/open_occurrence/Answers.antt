@@ -74,5 +74,5 @@ returns g c =
     let k = subst (λ (xs : List Equation). x ≡ get_or xs i x) c.as_slice.ensures c.in_ok-equation.ensures.lookup.1 in
     let m = at_item (λ (x : Equation). kept_header x.header) (listed o.equations) i x h k in
     let r = c.in_ok-arguments in
-    let p = occurrence_with a f (kept_headers o) t i u e (kept_header x.header) m (length c.as_slice-sorts.result.now) (ap length c.as_slice-sorts.ensures) (Some (listed r.arguments, r.behind)) c.in_ok-arguments.ensures in
+    let p = occurrence_with a f (kept_headers o) t i u e (kept_header x.header) m (length c.as_slice-sorts.result.now) (ap length c.as_slice-sorts.ensures) (Some (listed r.arguments, r.end)) c.in_ok-arguments.ensures in
     record { places = p; found = occurrence_found a f t (kept_headers o) (Some _) p }

@@ -1,5 +1,5 @@
 //! Making, reading and lengthening a row.
-ghost use Rattle.std.specs.Prelude.{◌≡◌, ◌<◌, [], ◌∷◌, ◌++◌, length, IsOk, IsErr, ◌↔◌};
+ghost use Rattle.std.specs.Prelude.{◌≡◌, ◌<◌, ◌≤◌, [], ◌∷◌, ◌++◌, length, IsOk, IsErr, ◌↔◌};
 ghost use Rattle.rows.specs.Listed.{listed};
 
 use crate::row::{NoPlace, Row};
@@ -21,6 +21,14 @@ impl<T: Copy, const N: usize> Row<T, N> {
     {
         let all = &self.items[..];
         &all[0..self.len]
+    }
+
+    /// How many records there are.
+    pub fn len(&self) -> usize
+        ensures count { result ≡ length (listed self.now) }
+        ensures within { result ≤ N }
+    {
+        self.as_slice().len()
     }
 
     /// One record more, behind the others.
