@@ -3,3 +3,4 @@ pub mod Counts
 pub mod Rows
 pub mod Stays
 pub mod Sounds
+pub mod Parts
