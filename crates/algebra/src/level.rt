@@ -98,6 +98,7 @@ impl Algebra for Level {
         if a >= 16 || b >= 16 {
             return None;
         }
+        // Files and questions name an operation by its number; an enum would be made of it and matched in the same place.
         match op {
             0 => Some(sum(a, b)),
             1 => Some(distance(a, b)),

@@ -16,10 +16,7 @@ use system::header::Sign;
 fn suits(known: Option<Sign>, sign: Sign) -> bool
     ensures { MatchOption known (result ≡ true) (λ s. result ≡ same_sign (kept_sign s) (kept_sign sign)) }
 {
-    match known {
-        None => true,
-        Some(known) => known == sign,
-    }
+    known.is_none_or(|known| known == sign)
 }
 
 // Reads one of `count` variables, and enters it behind the others.

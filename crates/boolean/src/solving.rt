@@ -66,6 +66,7 @@ impl<'a> Solver<'a> {
             bytes: self.file,
             at: entry.body as usize,
         };
+        // An accepted file's bodies are read; the answer is no Result, so `?` cannot say it.
         let Ok(truth) = read_body(&mut cursor, entries.len() as u32, truths, BODY_DEPTH) else {
             return false;
         };
@@ -83,6 +84,7 @@ impl<'a> Solver<'a> {
     {
         let to = moves_to(self.blocks.signs.as_slice()[k]);
         let mut changed = false;
+        // The truths are written while the variables are visited, so no iterator can hold them.
         for v in (0..self.variables.entries.as_slice().len()).rev() {
             if self.visit(k, v, to, truths) {
                 changed = true;

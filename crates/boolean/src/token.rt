@@ -27,6 +27,7 @@ pub(crate) fn read_body(
             place,
         });
     }
+    // The numbers of the format, which stand here alone.
     match kind {
         0 => Ok(false),
         1 => Ok(true),

@@ -36,6 +36,7 @@ fn write_variables<G: Algebra>(
 ) -> Result<(), Unfinished> {
     draft.list.come(accepted.outline.start).ok_or(Unfinished)?;
     draft.put(0, 12);
+    // The list grows while it is walked, so no iterator can hold it.
     for k in 0..INSTANCES {
         let Some(instance) = draft.list.get(k) else {
             return Ok(());

@@ -50,7 +50,7 @@ fn reached_come<G: Algebra>(
         index: accepted.outline.start.equation as usize,
     };
     list.come(start).ok_or(Missing)?;
-    // Each equation comes once.
+    // Each equation comes once. The list grows while it is walked, so no iterator can hold it.
     for k in 0..31 {
         let Some(number) = list.get(k) else {
             return Ok(());

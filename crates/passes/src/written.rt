@@ -40,6 +40,7 @@ pub(crate) fn write_value(writer: &mut BitWriter, sort: u8, value: u8) -> Result
 fn sort_of<G: Algebra>(alg: &G, term: Term) -> u8 {
     match term {
         Term::Value { sort, value: _ } => sort,
+        // An operation that has a value has a sort.
         Term::Operation { op, arguments: _ } => alg.result_sort(op).unwrap_or(0),
         _ => 0,
     }

@@ -14,6 +14,7 @@ pub struct Row<T, const N: usize> {
     ghost within: { len ≤ N },
 }
 
+// By hand, since no derive is made for a struct with a ghost field and a type parameter.
 impl<T: Copy, const N: usize> Copy for Row<T, N> {}
 
 impl<T: Copy, const N: usize> Clone for Row<T, N> {

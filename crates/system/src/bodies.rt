@@ -104,6 +104,7 @@ pub(crate) fn check_bodies<'a, G: Algebra>(
 fn read_value<G: Algebra>(alg: &G, cursor: &mut Cursor, sort: u8) -> Result<u8, Stop>
     ensures { Reads (λ v. v) (read_value_of (G.meaning alg.now) sort) cursor.old cursor.new result }
 {
+    // A sort that is not there has no value.
     let size = alg.size(sort).unwrap_or(0);
     let value = cursor.field_below(8, size as u32, Reason::ValueTooLarge)?;
     Ok(value as u8)

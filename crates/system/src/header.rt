@@ -13,7 +13,7 @@ pub enum Sign {
 }
 
 impl Sign {
-    /// The sign that a bit stands for.
+    /// The sign that a bit stands for. Every number gives one, so a `TryFrom`, which may fail, would say less.
     pub fn from_bit(bit: u32) -> Sign
         ensures { kept_sign result ≡ sign_of bit }
     {

@@ -78,6 +78,8 @@ fn read_header<G: Algebra>(alg: &G, cursor: &mut Cursor) -> Result<Header, Stop>
     })
 }
 
+// The three loops of this file differ in what they read; one over a closure would need a clause about every kind of record that a
+// reader reads, and a longer contract and proof at each call.
 pub(crate) fn read_headers<G: Algebra>(
     alg: &G,
     cursor: &mut Cursor,

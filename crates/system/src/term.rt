@@ -135,6 +135,7 @@ impl<'a, G: Algebra> Checker<'a, G> {
                 place: start,
             });
         }
+        // The numbers of the format: an enum of kinds would be made by one more function that lists the same numbers.
         match kind {
             0 => self.check_parameter(cursor, start, need),
             1 => self.check_variable(cursor, start, need),

@@ -34,6 +34,7 @@ impl Environment {
 }
 
 // One known false side decides; else both must be known true.
+// Values of sort 0 are the numbers 0 and 1, as those of every sort are numbers.
 fn both(x: Option<u8>, y: Option<u8>) -> Option<u8>
     ensures { result ≡ both_known x y }
 {

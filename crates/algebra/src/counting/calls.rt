@@ -125,6 +125,7 @@ fn count(size: u16, which: u8, args: &[u8]) -> Option<u8>
     requires { size ≤ 256 }
     ensures { result ≡ runs size which args.now }
 {
+    // Files and questions name an operation by its number; an enum would be made of it and matched in the same place.
     match which {
         0 => up(size, args),
         1 => down(size, args),
@@ -160,6 +161,7 @@ impl Algebra for Counting {
     }
 
     fn arg_sort(&self, op: u8, k: u8) -> Option<u8> {
+        // By `then_some` the proof did not close: it knows the answer by its test alone.
         if k < self.arity(op)? {
             Some(op / 4 + 1)
         } else {
