@@ -91,7 +91,7 @@ module _ (sizes : List ℕ) (os : List Operation) (values : List ℕ) (i : ℕ) 
       let u = and_parts (nat_le (length q.args) 3) (each (λ s. ltb s (length sizes)) q.args && tail) s in
       (and_parts (each (λ s. ltb s (length sizes)) q.args) tail u.1).0
 
-  room_for : roomy sizes values os ≡ true → o.offset + values_of sizes o ≤ length values
+  pub room_for : roomy sizes values os ≡ true → o.offset + values_of sizes o ≤ length values
   room_for e = leb-true (o.offset + values_of sizes o) (length values) (each_of (λ o. leb (o.offset + values_of sizes o) (length values)) os i o e (sym there))
 
   -- where its value at some arguments lies

@@ -1,5 +1,5 @@
 //! The calls on a bench.
-ghost use Rattle.std.specs.Prelude.{◌≡◌, ℕ, ◌<◌, ◌≤◌, List, [], ◌++◌, length, drop};
+ghost use Rattle.std.specs.Prelude.{◌≡◌, []};
 ghost use Rattle.definitions.specs.Calls.{Loads};
 ghost use Rattle.definitions.specs.Past.{Past, loads};
 ghost use Rattle.definitions.specs.Histories.{Follows, VerdictKept};

@@ -1,6 +1,6 @@
 //! Reading a file field by field, with the reason and the place where that stops.
-ghost use Rattle.std.specs.Prelude.{◌≡◌, ◌^◌, ◌<◌, ◌≤◌, length, IfOk};
-ghost use Rattle.definitions.specs.Reading.{take_for, below, ending};
+ghost use Rattle.std.specs.Prelude.{◌≡◌, ◌^◌, ◌<◌, IfOk};
+ghost use Rattle.definitions.specs.Reading.{below, ending};
 ghost use Rattle.bits.specs.Told.{Reads, narrow, narrow_for, told};
 
 use crate::file::Cursor;

@@ -1,5 +1,5 @@
 //! Handing bytes over to the front of a slice.
-ghost use Rattle.std.specs.Prelude.{◌≡◌, ◌<◌, ◌≤◌, ◌++◌, ◌↔◌, length, drop, IsOk, IsErr, IfOk, OnOk};
+ghost use Rattle.std.specs.Prelude.{◌≡◌, ◌≤◌, ◌++◌, ◌↔◌, length, drop, IsOk, IsErr, IfOk, OnOk};
 
 use crate::writer::Full;
 

@@ -1,5 +1,5 @@
 //! Reading fields.
-ghost use Rattle.std.specs.Prelude.{◌≡◌, ◌+◌, ◌*◌, ◌%◌, ◌^◌, ◌<◌, ◌≤◌, length, IfSome, None};
+ghost use Rattle.std.specs.Prelude.{◌≡◌, ◌+◌, ◌*◌, ◌^◌, ◌<◌, ◌≤◌, length, IfSome, None};
 ghost use Rattle.definitions.specs.Bits.{field as bit_field};
 ghost use Rattle.definitions.specs.Reading.{take};
 ghost use Rattle.bits.specs.Took.{took};

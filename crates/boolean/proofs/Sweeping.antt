@@ -23,7 +23,7 @@ use Rattle.boolean.specs.declared.entries.Entry.{Entry}
 use Rattle.boolean.specs.declared.entries.Variables.{Variables}
 use Rattle.boolean.specs.Steps.{assigned, mapped, read_said}
 use Rattle.boolean.specs.Files.{Kept, Described}
-use Rattle.rows.specs.Listed.{listed}
+use Rattle.rows.specs.Listed.{listed, listed_within}
 use Rattle.boolean.specs.declared.solver.Solver.{Solver}
 use Rattle.boolean.specs.Solvers.{variables, body, inside}
 use Rattle.boolean.proofs.Entering.{all_kept_long, kept_at}
@@ -177,14 +177,8 @@ module _ (s : Solver) where
       pub body_reads : (r : Reason) (u : ℕ) → stop r u ≡ read_said (length es) 8 h s.file.now e.body → ⊥
       body_reads r u z = ∥∥₁_elim s.described (λ x y. absurd x) (λ d. let j : stop r u ≡ next (body s h v) (body_is d).0 = z ∙ (body_is d).1 in let z : ◌≡◌ {A = ℕ} 0 1 = cc in omega arith)
 
-take_le : {A : Type 0} (n : ℕ) (xs : List A) → length (take n xs) ≤ n
-take_le zero [] = omega arith
-take_le zero (x ∷ xs) = omega arith
-take_le (suc n) [] = omega arith
-take_le (suc n) (x ∷ xs) = let l : length (take n xs) ≤ n = take_le n xs in omega arith
-
 pub few_entries : (x : Variables) → length (listed x.entries) ≤ 4096
-few_entries x = omega (arith, take_le x.entries.len x.entries.items, x.entries.within)
+few_entries x = listed_within x.entries
 
 pub swept_next : (s : KeptSign) (body : (ℕ → Bool) → ℕ → Bool) (inside : ℕ → Bool) (h : ℕ → Bool) → Monotone order.truths body → (n v : ℕ) (ts ts' : List Bool) (c r t : Bool) →
     n ≡ suc v → t ≡ moves_to s → v < length ts → Swept s body inside n h (assigned ts) c → Visited t body inside v ts ts' r → Swept s body inside v h (assigned ts') (r || c)

@@ -1,5 +1,5 @@
 //! Solving a Boolean file: the nested least and greatest solution, block by block.
-ghost use Rattle.std.specs.Prelude.{◌≡◌, ℕ, ◌<◌, ◌≤◌, Bool, true, false, List, ◌++◌, map, length, take as front, drop, ◌==◌, slice_index, slice_index_or};
+ghost use Rattle.std.specs.Prelude.{◌≡◌, ◌<◌, ◌≤◌, true, false, ◌++◌, map, length, drop, ◌==◌, slice_index};
 ghost use Rattle.rows.specs.Listed.{listed};
 ghost use Rattle.definitions.specs.Algebras.{truth as byte_of};
 ghost use Rattle.definitions.specs.Solution.{put, edge};

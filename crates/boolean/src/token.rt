@@ -27,7 +27,7 @@ pub(crate) fn read_body(
             place,
         });
     }
-    // The numbers of the format, which stand here alone.
+    // The numbers of the format. What writes them (`expansion`) and what reads them do not see one another.
     match kind {
         0 => Ok(false),
         1 => Ok(true),

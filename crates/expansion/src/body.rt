@@ -1,5 +1,5 @@
 //! The body of an instance as tokens.
-use crate::draft::{Draft, Unfinished};
+use crate::draft::{Draft, Token, Unfinished};
 use algebra::Algebra;
 use rows::Row;
 use system::header::{Quantified, Quantifier};
@@ -36,7 +36,7 @@ fn write_clause<G: Algebra>(
     draft: &mut Draft,
 ) -> Result<(), Unfinished> {
     let clause = accepted.open_clause(at).ok_or(Unfinished)?;
-    draft.put_any(clause.count as u32);
+    draft.put_parts(Token::Any, clause.count as u32);
     let mut next = clause.next;
     for _ in 0..clause.count {
         let occurrence = accepted.open_occurrence(next).ok_or(Unfinished)?;
@@ -71,15 +71,15 @@ fn write_inside<G: Algebra>(
     draft: &mut Draft,
 ) -> Result<(), Unfinished> {
     if !holds(accepted, env, body.h) {
-        draft.put_constant(false);
+        draft.put_token(Token::False);
         return Ok(());
     }
     let clauses = holding_clauses(accepted, env, body)?;
     if clauses.len() == 0 {
-        draft.put_constant(true);
+        draft.put_token(Token::True);
         return Ok(());
     }
-    draft.put_all(clauses.len() as u32);
+    draft.put_parts(Token::All, clauses.len() as u32);
     for clause in clauses.as_slice() {
         write_clause(accepted, env, *clause, draft)?;
     }
@@ -100,10 +100,11 @@ fn write_quantified<G: Algebra>(
     }
     let variable = variables.as_slice()[level];
     let size = accepted.alg.size(variable.sort).ok_or(Unfinished)?;
-    match variable.quantifier {
-        Quantifier::ForAll => draft.put_all(size as u32),
-        Quantifier::Exists => draft.put_any(size as u32),
-    }
+    let token = match variable.quantifier {
+        Quantifier::ForAll => Token::All,
+        Quantifier::Exists => Token::Any,
+    };
+    draft.put_parts(token, size as u32);
     for value in (0..=u8::MAX).take(size as usize) {
         let mut inner = env;
         inner.variables[level] = Some(value);

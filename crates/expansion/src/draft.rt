@@ -5,7 +5,7 @@ use system::instance::Instance;
 
 /// The kinds of tokens.
 #[derive(Clone, Copy, PartialEq, Eq, Debug)]
-enum Token {
+pub(crate) enum Token {
     False = 0,
     True = 1,
     All = 2,
@@ -41,28 +41,21 @@ impl<'a, 'b> Draft<'a, 'b> {
         }
     }
 
-    // A token that is one truth for all instances.
-    pub(crate) fn put_constant(&mut self, truth: bool) {
-        let token = if truth { Token::True } else { Token::False };
+    // A token without parts.
+    pub(crate) fn put_token(&mut self, token: Token) {
         self.put(token as u32, 3);
     }
 
-    // The token of an all over so many tokens.
-    pub(crate) fn put_all(&mut self, count: u32) {
-        self.put(Token::All as u32, 3);
-        self.put(count.saturating_sub(1), 8);
-    }
-
-    // The token of an any over so many tokens.
-    pub(crate) fn put_any(&mut self, count: u32) {
-        self.put(Token::Any as u32, 3);
+    // The token of an all or an any over so many tokens.
+    pub(crate) fn put_parts(&mut self, token: Token, count: u32) {
+        self.put_token(token);
         self.put(count.saturating_sub(1), 8);
     }
 
     // The variable of an instance, which comes.
     pub(crate) fn put_variable(&mut self, instance: Instance) -> Result<(), Unfinished> {
         let number = self.list.come(instance).ok_or(Unfinished)?;
-        self.put(Token::Variable as u32, 3);
+        self.put_token(Token::Variable);
         self.put(number.min(4095) as u32, 12);
         Ok(())
     }

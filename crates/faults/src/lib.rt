@@ -85,7 +85,7 @@ pub struct Fault {
 }
 
 // A layer is told by the type of its fault. So those of table, read and solve are three types with the same fields, and those of
-// pass and expand two with the same cases.
+// pass and expand two with cases of the same shape.
 
 /// Making or filling an algebra is declined.
 #[derive(Clone, Copy, PartialEq, Eq, Debug)]

@@ -32,14 +32,14 @@ struct Numbered<'a> {
 // The parameters of the equation that occur in the term at the place come.
 fn occurring_come<G: Algebra>(
     accepted: &Accepted<G>,
-    equation: &Numbered,
+    numbered: &Numbered,
     at: usize,
     list: &mut FirstCome<Parameter>,
 ) -> Result<(), Missing> {
-    for index in 0..equation.equation.header.sorts.len() {
+    for index in 0..numbered.equation.header.sorts.len() {
         if occurs(accepted.alg, accepted.view(at), index as u8, DEPTH) {
             let parameter = Parameter {
-                equation: equation.number,
+                equation: numbered.number,
                 index,
             };
             list.come(parameter).ok_or(Missing)?;
@@ -51,14 +51,14 @@ fn occurring_come<G: Algebra>(
 // The marked parameters of the equation come.
 fn marked_come<G: Algebra>(
     accepted: &Accepted<G>,
-    equation: &Numbered,
+    numbered: &Numbered,
     list: &mut FirstCome<Parameter>,
 ) -> Result<(), Missing> {
-    let body = accepted.open_body(equation.equation.body).ok_or(Missing)?;
-    occurring_come(accepted, equation, body.h, list)?;
+    let body = accepted.open_body(numbered.equation.body).ok_or(Missing)?;
+    occurring_come(accepted, numbered, body.h, list)?;
     let mut next = body.next;
     for _ in 0..body.count {
-        occurring_come(accepted, equation, next, list)?;
+        occurring_come(accepted, numbered, next, list)?;
         next = accepted.end_of_clause(next).ok_or(Missing)?;
     }
     Ok(())
@@ -67,7 +67,7 @@ fn marked_come<G: Algebra>(
 // The parameters that occur in an argument for one that came come.
 fn feeding_come<G: Algebra>(
     accepted: &Accepted<G>,
-    equation: &Numbered,
+    numbered: &Numbered,
     occurrence: &OccurrenceAt,
     list: &mut FirstCome<Parameter>,
 ) -> Result<(), Missing> {
@@ -77,7 +77,7 @@ fn feeding_come<G: Algebra>(
             index,
         };
         if list.find(&target).is_some() {
-            occurring_come(accepted, equation, *argument, list)?;
+            occurring_come(accepted, numbered, *argument, list)?;
         }
     }
     Ok(())
@@ -86,17 +86,17 @@ fn feeding_come<G: Algebra>(
 // The same for every occurrence of an equation.
 fn pointing_come<G: Algebra>(
     accepted: &Accepted<G>,
-    equation: &Numbered,
+    numbered: &Numbered,
     list: &mut FirstCome<Parameter>,
 ) -> Result<(), Missing> {
-    let body = accepted.open_body(equation.equation.body).ok_or(Missing)?;
+    let body = accepted.open_body(numbered.equation.body).ok_or(Missing)?;
     let mut next = body.next;
     for _ in 0..body.count {
         let clause = accepted.open_clause(next).ok_or(Missing)?;
         next = clause.next;
         for _ in 0..clause.count {
             let occurrence = accepted.open_occurrence(next).ok_or(Missing)?;
-            feeding_come(accepted, equation, &occurrence, list)?;
+            feeding_come(accepted, numbered, &occurrence, list)?;
             next = occurrence.next;
         }
     }

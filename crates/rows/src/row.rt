@@ -14,7 +14,7 @@ pub struct Row<T, const N: usize> {
     ghost within: { len ≤ N },
 }
 
-// By hand, since no derive is made for a struct with a ghost field and a type parameter.
+// By hand: over a ghost field and a type parameter a derive is refused, and so is a derive_where.
 impl<T: Copy, const N: usize> Copy for Row<T, N> {}
 
 impl<T: Copy, const N: usize> Clone for Row<T, N> {

@@ -14,11 +14,6 @@ use Rattle.system.specs.declared.places.ClauseAt.{ClauseAt}
 use Rattle.system.specs.declared.places.OccurrenceAt.{OccurrenceAt}
 use Rattle.system.specs.Walks.{term_end, counted, term_places, occurrence_places, occurrences_end, clause_end, BodyPlaces, ClausePlaces, OccurrencePlaces, BodyFound, ClauseFound, OccurrenceFound, EndFound}
 
-pub front_few : {X : Type 0} (n : ℕ) (xs : List X) → length (front n xs) ≤ n
-front_few zero xs = omega arith
-front_few (suc n) [] = omega arith
-front_few (suc n) (x ∷ xs) = let h : length (front n xs) ≤ n = front_few n xs in omega arith
-
 abbrev stood : {A : Type 0} → A → ℕ → Option (A × ℕ)
 stood x q = Some (x, q)
 

@@ -1,5 +1,5 @@
 //! Checking the bodies of a system's equations, and its start.
-ghost use Rattle.std.specs.Prelude.{◌≡◌, ℕ, ◌<◌, ◌≤◌, map, length, take as front, IfOk};
+ghost use Rattle.std.specs.Prelude.{◌≡◌, ◌<◌, ◌≤◌, map, length, take as front, IfOk};
 ghost use Rattle.definitions.specs.Reading.{one_by_one as each};
 ghost use Rattle.definitions.specs.ReadSystem.{read_of, read_target, read_occurrence, read_clause, read_body, read_value_of, scope};
 ghost use Rattle.bits.specs.Told.{Reads};

@@ -1,5 +1,8 @@
 //! Reading the headers of a system file.
-ghost use Rattle.std.specs.Prelude.{ℕ, ◌≤◌, map};
+//!
+//! Its three loops differ in what they read; one over a closure would need a clause about every kind of record that a reader reads,
+//! and a longer contract and proof at each call.
+ghost use Rattle.std.specs.Prelude.{◌≤◌, map};
 ghost use Rattle.definitions.specs.Reading.{repeated};
 ghost use Rattle.definitions.specs.ReadSystem.{read_sort, read_quantified, read_header};
 ghost use Rattle.bits.specs.Told.{Reads};
@@ -78,8 +81,6 @@ fn read_header<G: Algebra>(alg: &G, cursor: &mut Cursor) -> Result<Header, Stop>
     })
 }
 
-// The three loops of this file differ in what they read; one over a closure would need a clause about every kind of record that a
-// reader reads, and a longer contract and proof at each call.
 pub(crate) fn read_headers<G: Algebra>(
     alg: &G,
     cursor: &mut Cursor,

@@ -1,6 +1,5 @@
 //! Checking terms: kinds, numbers, depths and sorts.
 ghost use Rattle.std.specs.Prelude.{◌≡◌, ℕ, List, Option};
-ghost use Rattle.definitions.specs.Alg.{Alg};
 ghost use Rattle.definitions.specs.Reading.{Reader};
 ghost use Rattle.definitions.specs.ReadSystem.{Sorted, suits, read_value, read_operation, read_term, scope, Scope as Names};
 ghost use Rattle.bits.specs.Told.{told, Reads};
@@ -135,7 +134,7 @@ impl<'a, G: Algebra> Checker<'a, G> {
                 place: start,
             });
         }
-        // The numbers of the format: an enum of kinds would be made by one more function that lists the same numbers.
+        // The numbers of the format: each fault has its place between the fields of its kind, so a kind is not read whole before it is checked.
         match kind {
             0 => self.check_parameter(cursor, start, need),
             1 => self.check_variable(cursor, start, need),

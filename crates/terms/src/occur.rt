@@ -1,6 +1,5 @@
 //! Whether a parameter occurs in a term.
-ghost use Rattle.std.specs.Prelude.{◌≡◌, ℕ, ◌≤◌, Bool, false, [], ◌∷◌, length, Some, None, Option};
-ghost use Rattle.definitions.specs.Lists.{some as any, bind, or_else};
+ghost use Rattle.std.specs.Prelude.{◌≡◌, ℕ, ◌≤◌, length, Some, Option};
 ghost use Rattle.definitions.specs.Systems.{Term as Tree};
 ghost use Rattle.definitions.specs.Reading.{next};
 ghost use Rattle.definitions.specs.ReadSystem.{Scope, Sorted, read_term};

@@ -72,7 +72,7 @@ fn read_kind<G: Algebra>(alg: &G, reader: &mut BitReader) -> Option<(Kind, u8)>
     ensures reads { reached kind_and_count result reader.new.at ≡ opening (G.meaning alg.now) reader.old.bytes.now reader.old.at }
     ensures apt { IfSome result (λ o. Apt (G.meaning alg.now) o.0 o.1) }
 {
-    // The numbers of the format become kinds here, and nowhere else.
+    // The numbers of the format become kinds here, for every walk of an accepted file.
     match field(reader, 3)? {
         0 => Some((Kind::Parameter(field(reader, 4)?), 0)),
         1 => Some((Kind::Variable(field(reader, 2)?), 0)),

@@ -4,7 +4,7 @@ ghost use Rattle.rows.specs.Listed.{listed};
 ghost use Rattle.definitions.specs.Alg.{within, sized};
 ghost use Rattle.definitions.specs.Lists.{at as member_at, each};
 ghost use Rattle.definitions.specs.Reading.{got, bad};
-ghost use Rattle.definitions.specs.Tables.{place_of, table_reading, table as table_of};
+ghost use Rattle.definitions.specs.Tables.{place_of, table_reading};
 ghost use Rattle.algebra.specs.Tabled.{stored, tabled};
 ghost use Rattle.algebra.specs.Tables.{table_lawful};
 

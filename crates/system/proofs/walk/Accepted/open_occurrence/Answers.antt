@@ -1,5 +1,5 @@
 use Rattle.std.proofs.Common.{◌≡◌, ◌<◌, ◌≤◌, List, length, get_or, Some, None, Option, sym, refl, ap, subst, arith, lit≤}
-use Rattle.rows.specs.Listed.{listed}
+use Rattle.rows.specs.Listed.{listed, listed_within}
 use Rattle.terms.proofs.Fields.{field_came}
 use Rattle.system.specs.declared.outline.Equation.{Equation}
 use Rattle.system.specs.declared.places.OccurrenceAt.{OccurrenceAt}
@@ -7,7 +7,7 @@ use Rattle.system.specs.Files.{kept_header}
 use Rattle.system.specs.Whole.{kept_headers}
 use Rattle.system.specs.Walks.{OccurrencePlaces, OccurrenceFound}
 use Rattle.system.proofs.Lists.{at_item, at_none}
-use Rattle.system.proofs.Found.{front_few, occurrence_no_target, occurrence_at, occurrence_with, occurrence_found}
+use Rattle.system.proofs.Found.{occurrence_no_target, occurrence_at, occurrence_with, occurrence_found}
 use Rattle.system.proofs.walk.Accepted.open_occurrence.Goals as goal
 
 pub returns-in_err-target-clause-places : goal.returns-in_err-target-clause-places
@@ -37,9 +37,7 @@ returns-in_err-equation g c =
 
 pub arguments_at-requires : goal.arguments_at-requires
 arguments_at-requires g c =
-    let s = c.in_ok-equation.equation.now.header.sorts in
-    let w = s.within in
-    rw c.as_slice-sorts.ensures (let h = front_few s.len s.items in omega arith)
+    rw c.as_slice-sorts.ensures (listed_within c.in_ok-equation.equation.now.header.sorts)
 
 pub returns-in_err-arguments : goal.returns-in_err-arguments
 returns-in_err-arguments g c =

@@ -1,10 +1,9 @@
 use Rattle.std.proofs.Common.{◌≡◌, ℕ, ◌+◌, ◌^◌, ◌<◌, ◌≤◌, true, false, ltb, List, length, get_or, Some, None, Option, ◌∙◌, ap, ap₂, arith}
-use Rattle.rows.specs.Listed.{listed}
+use Rattle.rows.specs.Listed.{listed, listed_within}
 use Rattle.definitions.specs.Lists.{each}
 use Rattle.definitions.specs.Alg.{within, sized}
 use Rattle.definitions.specs.Tables.{place_of}
 use Rattle.algebra.specs.Kept.{args_of}
-use Rattle.algebra.specs.Lists.{front_long}
 use Rattle.algebra.specs.Places.{placed, unplaced}
 use Rattle.algebra.specs.Tables.{args_known, place_fits, value_none, value_some}
 use Rattle.algebra.proofs.table.calls.TableAlgebra.value.Goals as goal
@@ -40,8 +39,7 @@ overflow_add-result c =
     let o = c.in_ok-operation.operation in
     let f = found (listed t.sizes) c.as_slice.result.now (listed o.sorts) c.as_slice-2.result.now c.args.args.now c.as_slice.ensures c.as_slice-2.ensures c.in_ok-place.place c.in_ok-place.ensures in
     let inside : o.offset + c.in_ok-place.place < length (listed t.values) = place_fits (listed t.sizes) (listed t.operations) (listed t.values) c.args.op o c.in_ok-operation.ensures t.room c.args.args.now c.in_ok-place.place f.0 f.1 in
-    let few : length (listed t.values) ≤ t.values.len = front_long t.values.len t.values.items in
-    let most : t.values.len ≤ 16384 = t.values.within in
+    let few : length (listed t.values) ≤ 16384 = listed_within t.values in
     record { fits = (let i : o.offset + c.in_ok-place.place < 2 ^ 64 = omega arith in i) }
 
 pub bounds-as_slice-operation : goal.bounds-as_slice-operation
