@@ -2,7 +2,8 @@
 """Point 3: loops that count an index by hand.   python3 point3.py [-q]   at the repository's top
 
 Every while, loop and for is listed once. A `for i in a..b` counts an index where its body has i (or a name made of i by a let) inside
-square brackets or in get(i), where its range is a length, or where it hands i to a function of the same file that uses it so."""
+square brackets or in get(i), where its range is a length, or where it hands i to a function of the same file that uses it so; a
+`for (i, x) in ..enumerate()` where its body has i inside square brackets."""
 from sources import *
 
 r = Report(
@@ -12,6 +13,7 @@ r = Report(
     "c for i in a..b over a length, that does not index",
     "d for i in a..b that hands i to a function which indexes with it",
     "i for x in a slice that all, any or position would say",
+    "j for (i, x) in an enumeration that indexes another array by i",
     "-e for i in a..b whose i is a number and no index",
     "-f for _ in a..b that only repeats",
     "-g for x in a slice or an iterator",
@@ -54,7 +56,10 @@ for file in files():
             r.put("a" if counter and re.search(r"\b%s [+-]= " % counter.group(1), body) else "h", file, at, words)
         else:
             f = re.match(r"for (.+?) in (.+)$", head)
-            if ".." not in f.group(2):
+            pair = re.match(r"\((\w+), ", f.group(1))
+            if pair and "enumerate()" in f.group(2) and indexes(body, pair.group(1)):
+                r.put("j", file, at, words)
+            elif ".." not in f.group(2):
                 r.put("i" if re.search(r"return (true|false);\s*\}\s*\}$", body) else "g", file, at, words)
             elif f.group(1).startswith("_"):
                 r.put("f", file, at, words)

@@ -106,7 +106,7 @@ for file in files():
             put("j", at, "match %s: %d cases of the same name" % (subject, len(same)))
     for m in re.finditer(r"\blet (?:mut )?(\w+) = (desk|self)\.(bench|table|counting);|\bdesk\.(?:bench|table) = [a-z]\w*;", text):
         put("p", m.start(), m.group())
-    for m in re.finditer(r"\(([\w.\[\] +]+) & 0x\w+\) as u\d+", text):
+    for m in re.finditer(r"\(([\w.\[\] +*]+) & 0x\w+\) as u\d+", text):
         put("k", m.start(), m.group())
     for m in re.finditer(r"line\.push\(digits[^;]*;|:02X", raw):
         put("l", m.start(), m.group())
