@@ -1,18 +1,20 @@
 -- Bodies, clauses and occurrences that are read are found.
-use Rattle.std.proofs.Common.{◌≡◌, ℕ, zero, suc, ◌+◌, ◌-◌, ◌<◌, ◌≤◌, List, [], ◌∷◌, ◌++◌, length, get_or, take as front, Some, None, Option, sym, refl, ap, ◌∙◌, arith, append_assoc, append-nil}
+use Rattle.std.proofs.Common.{◌≡◌, ℕ, zero, suc, ◌+◌, ◌-◌, ◌<◌, ◌≤◌, List, [], ◌∷◌, ◌++◌, map, length, get_or, Some, None, Option, sym, refl, ap, ◌∙◌, subst, arith, append_assoc, append-nil}
+use Rattle.std.specs.Option.{option_map}
 use Rattle.faults.specs.declared.Reason.TheVariants.{NoSuchName}
 use Rattle.definitions.specs.Lists.{at, bind}
 use Rattle.definitions.specs.Alg.{Alg}
 use Rattle.definitions.specs.Systems.{Term, Occurrence, Clause, Equation}
 use Rattle.definitions.specs.Reading.{next, Reader, follow, take, given, repeated, one_by_one}
 use Rattle.definitions.specs.ReadSystem.{Scope, Sorted, Header, scope, greatest_depth, read_term, read_of, read_target, read_occurrence, read_clause, read_body}
+use Rattle.rows.specs.declared.row.Row.{Row}
 use Rattle.rows.specs.Listed.{listed}
 use Rattle.terms.specs.Shapes.{field_at, shape, what, behind, standing}
 use Rattle.terms.proofs.Laws.{followed, term_stands, field_is}
 use Rattle.system.specs.declared.places.BodyAt.{BodyAt}
 use Rattle.system.specs.declared.places.ClauseAt.{ClauseAt}
 use Rattle.system.specs.declared.places.OccurrenceAt.{OccurrenceAt}
-use Rattle.system.specs.Walks.{term_end, counted, term_places, occurrence_places, occurrences_end, clause_end, BodyPlaces, ClausePlaces, OccurrencePlaces, BodyFound, ClauseFound, OccurrenceFound, EndFound}
+use Rattle.system.specs.Walks.{term_end, counted, term_places, occurrence_places, occurrences_end, clause_end, BodyPlaces, ClausePlaces, OccurrencePlaces, BodyFound, ClauseFound, OccurrenceFound, EndFound, in_row, occurrence_next, clause_next, occurrence_told, clause_told, Found, Pairs, OccurrenceOf, ClauseOf, occurrences_of, OccurrencesPlaces, OccurrencesFound, ClausesPlaces, ClausesFound}
 
 abbrev stood : {A : Type 0} → A → ℕ → Option (A × ℕ)
 stood x q = Some (x, q)
@@ -23,13 +25,9 @@ tuple i ps q = Some (i, (ps, q))
 abbrev built : Header → Term → List Clause → Equation
 built h g cs = record { sign = h.sign; sorts = h.sorts; quantified = h.quantified; h = g; clauses = cs }
 
-abbrev pub prefixed : List ℕ → Option (List ℕ × ℕ) → Option (List ℕ × ℕ)
+abbrev pub prefixed : {X : Type 0} → List X → Option (List X × ℕ) → Option (List X × ℕ)
 prefixed xs None = None
 prefixed xs (Some y) = Some (xs ++ y.0, y.1)
-
-pub places_begin : (o : Option (List ℕ × ℕ)) → o ≡ prefixed [] o
-places_begin None = refl
-places_begin (Some y) = refl
 
 two : (n v m w : ℕ) → stood n v ≡ stood m w → (n ≡ m) × (v ≡ w)
 two n v m w e =
@@ -269,6 +267,83 @@ module _ (a : Alg) (f : List ℕ) (p : ℕ) where
         places ∙ ap (λ (o : Option (ℕ × ℕ)). bind {B = ℕ} o (λ n. occurrences_end a hs (suc n.0) f n.1)) d.1.1.0 ∙
         occurrences_end_lem a f short hs s (suc d.0) d.1.0 k.occurrences q d.1.1.1.1.1
 
+-- things in a row, one more at a time
+module _ {X : Type 0} (s : ℕ → Option (X × ℕ)) where
+  pub row_begin : (n p : ℕ) → in_row s n p ≡ prefixed [] (in_row s (n - 0) p)
+  row_begin n p = begin (in_row s n p) ∙ ap (λ k. prefixed [] (in_row s k p)) (sub-zero n)
+    where
+      begin : (o : Option (List X × ℕ)) → o ≡ prefixed [] o
+      begin None = refl
+      begin (Some y) = refl
+
+      sub-zero : (n : ℕ) → n ≡ n - 0
+      sub-zero n = omega arith
+
+  more : (xs : List X) (x : X) (o : Option (List X × ℕ)) → prefixed xs (bind o (λ r. Some (x ∷ r.0, r.1))) ≡ prefixed (xs ++ (x ∷ [])) o
+  more xs x None = refl
+  more xs x (Some y) = ap (λ z. stood z y.1) (sym (append_assoc xs (x ∷ []) y.0))
+
+  pub row_next : (xs zs : List X) (n i p : ℕ) (x : X) (q : ℕ) → i < n → s p ≡ Some (x, q) → zs ≡ xs ++ (x ∷ []) → prefixed xs (in_row s (n - i) p) ≡ prefixed zs (in_row s (n - (i + 1)) q)
+  row_next xs zs n i p x q h e k = go (n - i) (n - (i + 1)) (omega arith)
+    where
+      go : (u v : ℕ) → u ≡ v + 1 → prefixed xs (in_row s u p) ≡ prefixed zs (in_row s v q)
+      go zero v l = absurd (omega arith)
+      go (suc u) v l =
+          let j : u ≡ v = omega arith in
+          ap (λ (o : Option (X × ℕ)). prefixed xs (bind o (λ x. bind (in_row s u x.1) (λ r. Some (x.0 ∷ r.0, r.1))))) e ∙
+          more xs x (in_row s u q) ∙ ap (λ z. prefixed z (in_row s u q)) (sym k) ∙ ap (λ z. prefixed zs (in_row s z q)) j
+
+  pub row_none : (xs : List X) (n i p : ℕ) → i < n → s p ≡ None → prefixed xs (in_row s (n - i) p) ≡ None
+  row_none xs n i p h e = go (n - i) (omega arith)
+    where
+      go : (u : ℕ) → 0 < u → prefixed xs (in_row s u p) ≡ None
+      go zero l = absurd (omega arith)
+      go (suc u) l = ap (λ (o : Option (X × ℕ)). prefixed xs (bind o (λ x. bind (in_row s u x.1) (λ r. Some (x.0 ∷ r.0, r.1))))) e
+
+  pub row_end : (xs : List X) (n i p : ℕ) → n ≡ i → prefixed xs (in_row s (n - i) p) ≡ Some (xs, p)
+  row_end xs n i p h = let e : n - i ≡ 0 = omega arith in ap (λ z. prefixed xs (in_row s z p)) e ∙ ap (λ z. stood z p) (append-nil xs)
+
+  -- what is read one by one is found one by one
+  pub row_found : {Y : Type 0} (r : Reader Y) (f : List ℕ) (P : X → Y → Type 0) → ((p : ℕ) (y : Y) (q : ℕ) → r f p ≡ next y q → (x : X) × ((s p ≡ Some (x, q)) × P x y)) →
+      (n p : ℕ) (ys : List Y) (q : ℕ) → repeated r n f p ≡ next ys q → (xs : List X) × ((in_row s n p ≡ Some (xs, q)) × Pairs P xs ys)
+  row_found {Y} r f P found zero p ys q e =
+      let j : p ≡ q = cc in
+      let i : ys ≡ [] = cc in
+      ([], (ap (λ z. stood [] z) j, none ys i))
+    where
+      none : (ys : List Y) → ys ≡ [] → Pairs P [] ys
+      none [] i = tt
+      none (y ∷ ys) i = let z : suc (length ys) ≡ 0 = ap length i in absurd (omega arith)
+  row_found {Y} r f P found (suc n) p ys q e =
+      let d = followed (r f p) (λ y t. follow (repeated r n f t) (λ ys u. next (y ∷ ys) u)) ys q e in
+      let b = followed (repeated r n f d.1.0) (λ ys u. next (d.0 ∷ ys) u) ys q d.1.1.1 in
+      let h : next (d.0 ∷ b.0) b.1.0 ≡ next ys q = b.1.1.1 in
+      let i : ys ≡ d.0 ∷ b.0 = cc in
+      let j : b.1.0 ≡ q = cc in
+      let x = found p d.0 d.1.0 d.1.1.0 in
+      let rest = row_found r f P found n d.1.0 b.0 b.1.0 b.1.1.0 in (
+        x.0 ∷ rest.0,
+        (
+          ap (λ (o : Option (X × ℕ)). bind {B = List X × ℕ} o (λ x. bind (in_row s n x.1) (λ r. Some (x.0 ∷ r.0, r.1)))) x.1.0 ∙
+              ap (λ (o : Option (List X × ℕ)). bind {B = List X × ℕ} o (λ r. Some (x.0 ∷ r.0, r.1))) rest.1.0 ∙ ap (λ z. stood (x.0 ∷ rest.0) z) j,
+          both ys d.0 b.0 i x.0 rest.0 x.1.1 rest.1.1,
+        ),
+      )
+    where
+      both : (ys : List Y) (y : Y) (zs : List Y) → ys ≡ y ∷ zs → (x : X) (xs : List X) → P x y → Pairs P xs zs → Pairs P (x ∷ xs) ys
+      both [] y zs i x xs h k = let z : 0 ≡ suc (length zs) = ap length i in absurd (omega arith)
+      both (w ∷ ws) y zs i x xs h k =
+          let g : y ≡ w = cc in
+          let l : zs ≡ ws = cc in
+          (subst (λ z. P x z) g h, subst (λ z. Pairs P xs z) l k)
+
+-- of things told, each told pair is a pair
+pub told_pairs : {T X Y : Type 0} (told : T → X) (P : X → Y → Type 0) (Q : T → Y → Type 0) → ((t : T) (y : Y) → P (told t) y → Q t y) → (ts : List T) (ys : List Y) → Pairs P (map told ts) ys → Pairs Q ts ys
+told_pairs told P Q h [] [] k = tt
+told_pairs told P Q h [] (y ∷ ys) k = absurd k
+told_pairs told P Q h (t ∷ ts) [] k = absurd k
+told_pairs told P Q h (t ∷ ts) (y ∷ ys) k = (h t y k.0, told_pairs told P Q h ts ys k.1)
+
 -- what the code finds, step by step
 module _ (a : Alg) (f : List ℕ) where
   pub counted_no_term : (w p : ℕ) → None ≡ term_end a f p → counted a w f p ≡ None
@@ -277,55 +352,12 @@ module _ (a : Alg) (f : List ℕ) where
   pub counted_term : (w p u : ℕ) (o : Option (ℕ × ℕ)) → Some u ≡ term_end a f p → o ≡ field_at w f u → counted a w f p ≡ o
   counted_term w p u o e h = ap (λ (o : Option ℕ). bind {B = ℕ × ℕ} o (field_at w f)) (sym e) ∙ sym h
 
-  place_more : (xs : List ℕ) (p : ℕ) (o : Option (List ℕ × ℕ)) → prefixed xs (bind o (λ x. Some (p ∷ x.0, x.1))) ≡ prefixed (xs ++ (p ∷ [])) o
-  place_more xs p None = refl
-  place_more xs p (Some y) = ap (λ z. stood z y.1) (sym (append_assoc xs (p ∷ []) y.0))
-
-  pub place_next : (xs zs : List ℕ) (n i p q : ℕ) → i < n → Some q ≡ term_end a f p → xs ++ (p ∷ []) ≡ zs → prefixed xs (term_places a (n - i) f p) ≡ prefixed zs (term_places a (n - (i + 1)) f q)
-  place_next xs zs n i p q h e k = go (n - i) (n - (i + 1)) (omega arith)
-    where
-      go : (u v : ℕ) → u ≡ v + 1 → prefixed xs (term_places a u f p) ≡ prefixed zs (term_places a v f q)
-      go zero v l = absurd (omega arith)
-      go (suc u) v l =
-          let j : u ≡ v = omega arith in
-          ap (λ (o : Option ℕ). prefixed xs (bind o (λ q. bind (term_places a u f q) (λ x. Some (p ∷ x.0, x.1))))) (sym e) ∙
-          place_more xs p (term_places a u f q) ∙ ap (λ z. prefixed z (term_places a u f q)) k ∙ ap (λ z. prefixed zs (term_places a z f q)) j
-
-  pub place_none : (xs : List ℕ) (n i p : ℕ) → i < n → None ≡ term_end a f p → prefixed xs (term_places a (n - i) f p) ≡ None
-  place_none xs n i p h e = go (n - i) (omega arith)
-    where
-      go : (u : ℕ) → 0 < u → prefixed xs (term_places a u f p) ≡ None
-      go zero l = absurd (omega arith)
-      go (suc u) l = ap (λ (o : Option ℕ). prefixed xs (bind o (λ q. bind (term_places a u f q) (λ x. Some (p ∷ x.0, x.1))))) (sym e)
-
-  pub place_end : (xs : List ℕ) (n i p : ℕ) → n ≡ i → prefixed xs (term_places a (n - i) f p) ≡ Some (xs, p)
-  place_end xs n i p h = let e : n - i ≡ 0 = omega arith in ap (λ z. prefixed xs (term_places a z f p)) e ∙ ap (λ z. stood z p) (append-nil xs)
-
   module _ (hs : List Header) where
     pub occurrence_no_target : (p : ℕ) → None ≡ field_at 5 f p → occurrence_places a hs f p ≡ None
     occurrence_no_target p e = ap (λ (o : Option (ℕ × ℕ)). bind {B = ℕ × (List ℕ × ℕ)} o (λ i. bind (at hs i.0) (λ h. bind (term_places a (length h.sorts) f i.1) (λ x. Some (i.0, x))))) (sym e)
 
     pub occurrence_of : (p i u : ℕ) → Some (i, u) ≡ field_at 5 f p → occurrence_places a hs f p ≡ bind (at hs i) (λ h. bind (term_places a (length h.sorts) f u) (λ x. Some (i, x)))
     occurrence_of p i u e = ap (λ (o : Option (ℕ × ℕ)). bind {B = ℕ × (List ℕ × ℕ)} o (λ i. bind (at hs i.0) (λ h. bind (term_places a (length h.sorts) f i.1) (λ x. Some (i.0, x))))) (sym e)
-
-    pub end_next : (n i p : ℕ) (t : ℕ) (ps : List ℕ) (q : ℕ) → i < n → occurrence_places a hs f p ≡ Some (t, (ps, q)) → occurrences_end a hs (n - i) f p ≡ occurrences_end a hs (n - (i + 1)) f q
-    end_next n i p t ps q h e = go (n - i) (n - (i + 1)) (omega arith)
-      where
-        go : (u v : ℕ) → u ≡ v + 1 → occurrences_end a hs u f p ≡ occurrences_end a hs v f q
-        go zero v l = absurd (omega arith)
-        go (suc u) v l =
-            let j : u ≡ v = omega arith in
-            ap (λ (o : Option (ℕ × (List ℕ × ℕ))). bind {B = ℕ} o (λ x. occurrences_end a hs u f x.1.1)) e ∙ ap (λ z. occurrences_end a hs z f q) j
-
-    pub end_none : (n i p : ℕ) → i < n → occurrence_places a hs f p ≡ None → occurrences_end a hs (n - i) f p ≡ None
-    end_none n i p h e = go (n - i) (omega arith)
-      where
-        go : (u : ℕ) → 0 < u → occurrences_end a hs u f p ≡ None
-        go zero l = absurd (omega arith)
-        go (suc u) l = ap (λ (o : Option (ℕ × (List ℕ × ℕ))). bind {B = ℕ} o (λ x. occurrences_end a hs u f x.1.1)) e
-
-    pub end_end : (n i p : ℕ) → n ≡ i → occurrences_end a hs (n - i) f p ≡ Some p
-    end_end n i p h = let e : n - i ≡ 0 = omega arith in ap (λ z. occurrences_end a hs z f p) e
 
     pub occurrence_at : (p i u : ℕ) → Some (i, u) ≡ field_at 5 f p → (o : Option Header) → o ≡ at hs i → occurrence_places a hs f p ≡ bind o (λ h. bind (term_places a (length h.sorts) f u) (λ x. Some (i, x)))
     occurrence_at p i u e o h = occurrence_of p i u e ∙ ap (λ (o : Option Header). bind {B = ℕ × (List ℕ × ℕ)} o (λ h. bind (term_places a (length h.sorts) f u) (λ x. Some (i, x)))) (sym h)
@@ -341,3 +373,122 @@ module _ (a : Alg) (f : List ℕ) where
 
     pub clause_end_at : (p n v m : ℕ) → counted a 3 f p ≡ Some (n, v) → m ≡ suc n → clause_end a hs f p ≡ occurrences_end a hs m f v
     clause_end_at p n v m e h = ap (λ (o : Option (ℕ × ℕ)). bind {B = ℕ} o (λ n. occurrences_end a hs (suc n.0) f n.1)) e ∙ ap (λ z. occurrences_end a hs z f v) (sym h)
+
+    pub clause_row : (n p : ℕ) → occurrences_end a hs n f p ≡ option_map {T = List (ℕ × (List ℕ × ℕ)) × ℕ} (λ x. x.1) (in_row (occurrence_next a hs f) n p)
+    clause_row zero p = refl
+    clause_row (suc n) p = go (λ q. clause_row n q) (occurrence_places a hs f p)
+      where
+        Told : Type 0
+        Told = List (ℕ × (List ℕ × ℕ)) × ℕ
+
+        last : (x : ℕ × (List ℕ × ℕ)) (o : Option Told) → option_map {T = Told} (λ x. x.1) o ≡ option_map {T = Told} (λ x. x.1) (bind {B = Told} o (λ r. Some (x ∷ r.0, r.1)))
+        last x None = refl
+        last x (Some r) = refl
+
+        go : ((q : ℕ) → occurrences_end a hs n f q ≡ option_map {T = Told} (λ x. x.1) (in_row (occurrence_next a hs f) n q)) → (o : Option (ℕ × (List ℕ × ℕ))) →
+            bind o (λ x. occurrences_end a hs n f x.1.1) ≡ option_map {T = Told} (λ x. x.1) (bind (bind {B = (ℕ × (List ℕ × ℕ)) × ℕ} o (λ x. Some (x, x.1.1))) (λ x. bind (in_row (occurrence_next a hs f) n x.1) (λ r. Some (x.0 ∷ r.0, r.1))))
+        go ih None = refl
+        go ih (Some x) = ih x.1.1 ∙ last x (in_row (occurrence_next a hs f) n x.1.1)
+
+-- the places of terms as things in a row
+abbrev pub term_next : Alg → List ℕ → ℕ → Option (ℕ × ℕ)
+term_next a f p = bind (term_end a f p) (λ q. Some (p, q))
+
+pub terms_row : (a : Alg) (f : List ℕ) (n p : ℕ) → term_places a n f p ≡ in_row (term_next a f) n p
+terms_row a f zero p = refl
+terms_row a f (suc n) p = go (λ q. terms_row a f n q) (term_end a f p)
+  where
+    go : ((q : ℕ) → term_places a n f q ≡ in_row (term_next a f) n q) → (o : Option ℕ) →
+        bind {B = List ℕ × ℕ} o (λ q. bind (term_places a n f q) (λ x. Some (p ∷ x.0, x.1))) ≡ bind (bind {B = ℕ × ℕ} o (λ q. Some (p, q))) (λ x. bind (in_row (term_next a f) n x.1) (λ r. Some (x.0 ∷ r.0, r.1)))
+    go ih None = refl
+    go ih (Some q) = ap (λ (o : Option (List ℕ × ℕ)). bind {B = List ℕ × ℕ} o (λ x. Some (p ∷ x.0, x.1))) (ih q)
+
+-- occurrences and clauses in a row, as the code tells them
+module _ (a : Alg) (hs : List Header) (f : List ℕ) where
+  behind_row : (n p : ℕ) (w : Option (Row OccurrenceAt 8 × ℕ)) → occurrences_of w ≡ in_row (occurrence_next a hs f) n p → occurrences_end a hs n f p ≡ option_map (λ w. w.1) w
+  behind_row n p w e = clause_row a f hs n p ∙ ap (option_map {T = List (ℕ × (List ℕ × ℕ)) × ℕ} (λ x. x.1)) (sym e) ∙ told w
+    where
+      told : (w : Option (Row OccurrenceAt 8 × ℕ)) → option_map {T = List (ℕ × (List ℕ × ℕ)) × ℕ} (λ x. x.1) (occurrences_of w) ≡ option_map (λ w. w.1) w
+      told None = refl
+      told (Some x) = refl
+
+  pub clause_end_of : (p : ℕ) (c : ClauseAt) (w : Option (Row OccurrenceAt 8 × ℕ)) → ClausePlaces a f p (Some c) → occurrences_of w ≡ in_row (occurrence_next a hs f) c.count c.next → clause_end a hs f p ≡ option_map (λ w. w.1) w
+  clause_end_of p c w places e = clause_end_at a f hs p places.1.0 c.next c.count places.1.1.1 places.1.1.0 ∙ behind_row c.count c.next w e
+
+  pub clause_next_of : (p : ℕ) (c : ClauseAt) (w : Option (Row OccurrenceAt 8 × ℕ)) → ClausePlaces a f p (Some c) → occurrences_of w ≡ in_row (occurrence_next a hs f) c.count c.next → clause_next a hs f p ≡ option_map (λ w. (clause_told c, w.1)) w
+  clause_next_of p c w places e =
+      let n = places.1.0 in
+      ap (λ (o : Option (ℕ × ℕ)). bind {B = (ℕ × (ℕ × ℕ)) × ℕ} o (λ n. bind (occurrences_end a hs (suc n.0) f n.1) (λ q. Some ((p, (suc n.0, n.1)), q)))) places.1.1.1 ∙
+      ap (λ m. bind {B = (ℕ × (ℕ × ℕ)) × ℕ} (occurrences_end a hs m f c.next) (λ q. Some ((p, (m, c.next)), q))) (sym places.1.1.0) ∙
+      ap (λ z. bind {B = (ℕ × (ℕ × ℕ)) × ℕ} (occurrences_end a hs c.count f c.next) (λ q. Some ((z, (c.count, c.next)), q))) (sym places.0) ∙
+      ap (λ (o : Option ℕ). bind {B = (ℕ × (ℕ × ℕ)) × ℕ} o (λ q. Some (clause_told c, q))) (behind_row c.count c.next w e) ∙ told w
+    where
+      told : (w : Option (Row OccurrenceAt 8 × ℕ)) → bind {B = (ℕ × (ℕ × ℕ)) × ℕ} (option_map (λ w. w.1) w) (λ q. Some (clause_told c, q)) ≡ option_map (λ w. (clause_told c, w.1)) w
+      told None = refl
+      told (Some x) = refl
+
+  pub clause_no_next : (p : ℕ) → counted a 3 f p ≡ None → clause_next a hs f p ≡ None
+  clause_no_next p e = ap (λ (o : Option (ℕ × ℕ)). bind {B = (ℕ × (ℕ × ℕ)) × ℕ} o (λ n. bind (occurrences_end a hs (suc n.0) f n.1) (λ q. Some ((p, (suc n.0, n.1)), q)))) e
+
+  pub occurrences_told : (c : ClauseAt) (w : Option (Row OccurrenceAt 8 × ℕ)) → occurrences_of w ≡ in_row (occurrence_next a hs f) c.count c.next → OccurrencesPlaces a hs f c (option_map (λ w. w.0) w)
+  occurrences_told c None e = ap (option_map (λ x. x.0)) e
+  occurrences_told c (Some x) e = ap (option_map (λ x. x.0)) e
+
+  pub occurrences_found : (k : ClauseAt) (r : Option (Row OccurrenceAt 8)) → OccurrencesPlaces a hs f k r → OccurrencesFound a hs f k r
+  occurrences_found k r places c os q short e = found r (row_found (occurrence_next a hs f) (read_occurrence a hs c) f IsFound one k.count k.next os q e) places
+    where
+      IsFound : ℕ × (List ℕ × ℕ) → Occurrence → Type 0
+      IsFound t o = (x : OccurrenceAt) → occurrence_told x ≡ t → (u : ℕ) × OccurrenceOf a f o u x
+
+      one : (p : ℕ) (o : Occurrence) (u : ℕ) → read_occurrence a hs c f p ≡ next o u → (t : ℕ × (List ℕ × ℕ)) × ((occurrence_next a hs f p ≡ Some (t, u)) × IsFound t o)
+      one p o u h =
+          let d = occurrence_read a f short hs c p o u h in (
+            (o.target, (d.0, u)),
+            (
+              ap (λ (o : Option (ℕ × (List ℕ × ℕ))). bind {B = (ℕ × (List ℕ × ℕ)) × ℕ} o (λ x. Some (x, x.1.1))) d.1.0,
+              λ x i. (u, occurrence_found a f p hs (Some x) (d.1.0 ∙ ap Some (sym i)) c o u short h),
+            ),
+          )
+
+      found : (r : Option (Row OccurrenceAt 8)) → (ts : List (ℕ × (List ℕ × ℕ))) × ((in_row (occurrence_next a hs f) k.count k.next ≡ Some (ts, q)) × Pairs IsFound ts os) → OccurrencesPlaces a hs f k r →
+          Found r (λ xs. Pairs (λ x o. (u : ℕ) × OccurrenceOf a f o u x) (listed xs) os)
+      found None d places = let z : ◌≡◌ {A = Option (List (ℕ × (List ℕ × ℕ)))} None (Some d.0) = places ∙ ap (option_map (λ x. x.0)) d.1.0 in absurd cc
+      found (Some xs) d places =
+          let z : ◌≡◌ {A = Option (List (ℕ × (List ℕ × ℕ)))} (Some (map occurrence_told (listed xs))) (Some d.0) = places ∙ ap (option_map (λ x. x.0)) d.1.0 in
+          let i : map occurrence_told (listed xs) ≡ d.0 = cc in
+          told_pairs occurrence_told IsFound (λ x o. (u : ℕ) × OccurrenceOf a f o u x) (λ x o h. h x refl) (listed xs) os (subst (λ ts. Pairs IsFound ts os) (sym i) d.1.1)
+
+  pub no_clauses : (b : BodyAt) (r : Option (Row ClauseAt 15)) → r ≡ None → in_row (clause_next a hs f) b.count b.next ≡ None → ClausesPlaces a hs f b r
+  no_clauses b r e n = ap (option_map (λ cs. map clause_told (listed cs))) e ∙ ap (option_map {T = List (ℕ × (ℕ × ℕ)) × ℕ} (λ x. x.0)) (sym n)
+
+  pub clauses_found : (b : BodyAt) (r : Option (Row ClauseAt 15)) → ClausesPlaces a hs f b r → ClausesFound a hs f b r
+  clauses_found b r places c ks q short e = found r (row_found (clause_next a hs f) (read_clause a hs c) f IsFound one b.count b.next ks q e) places
+    where
+      IsFound : ℕ × (ℕ × ℕ) → Clause → Type 0
+      IsFound t k = (x : ClauseAt) → clause_told x ≡ t → (u : ℕ) × ClauseOf a hs c f k u x
+
+      parts : (x : ClauseAt) (p n v : ℕ) → clause_told x ≡ (p, (suc n, v)) → counted a 3 f p ≡ Some (n, v) → ClausePlaces a f p (Some x)
+      parts x p n v i e = (ap (λ t. t.0) i, (n, (ap (λ t. t.1.0) i, e ∙ ap (λ t. Some (n, t.1.1)) (sym i))))
+
+      one : (p : ℕ) (k : Clause) (u : ℕ) → read_clause a hs c f p ≡ next k u → (t : ℕ × (ℕ × ℕ)) × ((clause_next a hs f p ≡ Some (t, u)) × IsFound t k)
+      one p k u h =
+          let d = clause_read a f short hs c p k u h in
+          let n = d.0 in
+          let v = d.1.0 in
+          let e = d.1.1.0 in
+          let o = occurrences_end_lem a f short hs c (suc n) v k.occurrences u d.1.1.1.1.1 in (
+            (p, (suc n, v)),
+            (
+              ap (λ (o : Option (ℕ × ℕ)). bind {B = (ℕ × (ℕ × ℕ)) × ℕ} o (λ n. bind (occurrences_end a hs (suc n.0) f n.1) (λ q. Some ((p, (suc n.0, n.1)), q)))) e ∙
+                  ap (λ (o : Option ℕ). bind {B = (ℕ × (ℕ × ℕ)) × ℕ} o (λ q. Some ((p, (suc n, v)), q))) o,
+              λ x i. (u, clause_found a f p (Some x) (parts x p n v i e) hs c k u short h),
+            ),
+          )
+
+      found : (r : Option (Row ClauseAt 15)) → (ts : List (ℕ × (ℕ × ℕ))) × ((in_row (clause_next a hs f) b.count b.next ≡ Some (ts, q)) × Pairs IsFound ts ks) → ClausesPlaces a hs f b r →
+          Found r (λ xs. Pairs (λ x k. (u : ℕ) × ClauseOf a hs c f k u x) (listed xs) ks)
+      found None d places = let z : ◌≡◌ {A = Option (List (ℕ × (ℕ × ℕ)))} None (Some d.0) = places ∙ ap (option_map (λ x. x.0)) d.1.0 in absurd cc
+      found (Some xs) d places =
+          let z : ◌≡◌ {A = Option (List (ℕ × (ℕ × ℕ)))} (Some (map clause_told (listed xs))) (Some d.0) = places ∙ ap (option_map (λ x. x.0)) d.1.0 in
+          let i : map clause_told (listed xs) ≡ d.0 = cc in
+          told_pairs clause_told IsFound (λ x k. (u : ℕ) × ClauseOf a hs c f k u x) (λ x k h. h x refl) (listed xs) ks (subst (λ ts. Pairs IsFound ts ks) (sym i) d.1.1)

@@ -1,5 +1,6 @@
 -- Where the terms of bodies, clauses and occurrences stand, and how an accepted file's are found.
-use Rattle.std.specs.Prelude.{◌≡◌, ℕ, zero, suc, ◌≤◌, List, [], ◌∷◌, length, Some, None, Option, slice_index}
+use Rattle.std.specs.Prelude.{◌≡◌, ℕ, zero, suc, ◌≤◌, List, [], ◌∷◌, map, length, Some, None, Option, slice_index}
+use Rattle.std.specs.Option.{option_map}
 use Rattle.definitions.specs.Lists.{at, bind}
 use Rattle.definitions.specs.Alg.{Alg}
 use Rattle.definitions.specs.Systems.{Term, Occurrence, Clause, Equation}
@@ -37,10 +38,40 @@ occurrences_end a hs (suc n) f p = bind (occurrence_places a hs f p) (λ x. occu
 abbrev pub clause_end : Alg → List Header → List ℕ → ℕ → Option ℕ
 clause_end a hs f p = bind (counted a 3 f p) (λ n. occurrences_end a hs (suc n.0) f n.1)
 
+-- n things in a row, each found with the place behind it, and the place behind the last
+abbrev pub in_row : {X : Type 0} → (ℕ → Option (X × ℕ)) → ℕ → ℕ → Option (List X × ℕ)
+in_row s zero p = Some ([], p)
+in_row s (suc n) p = bind (s p) (λ x. bind (in_row s n x.1) (λ r. Some (x.0 ∷ r.0, r.1)))
+
+-- an occurrence with the place behind it
+abbrev pub occurrence_next : Alg → List Header → List ℕ → ℕ → Option ((ℕ × (List ℕ × ℕ)) × ℕ)
+occurrence_next a hs f p = bind (occurrence_places a hs f p) (λ x. Some (x, x.1.1))
+
+-- a clause's place, its occurrence count and the place of the first, with the place behind the clause
+abbrev pub clause_next : Alg → List Header → List ℕ → ℕ → Option ((ℕ × (ℕ × ℕ)) × ℕ)
+clause_next a hs f p = bind (counted a 3 f p) (λ n. bind (occurrences_end a hs (suc n.0) f n.1) (λ q. Some ((p, (suc n.0, n.1)), q)))
+
 -- the answers
 abbrev pub arguments_of : Option (Row ℕ 15 × ℕ) → Option (List ℕ × ℕ)
 arguments_of None = None
 arguments_of (Some x) = Some (listed x.0, x.1)
+
+abbrev pub occurrence_told : OccurrenceAt → ℕ × (List ℕ × ℕ)
+occurrence_told o = (o.target, (listed o.arguments, o.next))
+
+abbrev pub clause_told : ClauseAt → ℕ × (ℕ × ℕ)
+clause_told c = (c.guard, (c.count, c.next))
+
+abbrev pub occurrences_of : Option (Row OccurrenceAt 8 × ℕ) → Option (List (ℕ × (List ℕ × ℕ)) × ℕ)
+occurrences_of None = None
+occurrences_of (Some x) = Some (map occurrence_told (listed x.0), x.1)
+
+-- the occurrences of an open clause, and the clauses of an open body
+abbrev pub OccurrencesPlaces : Alg → List Header → List ℕ → ClauseAt → Option (Row OccurrenceAt 8) → Type 0
+OccurrencesPlaces a hs f c r = option_map (λ os. map occurrence_told (listed os)) r ≡ option_map (λ x. x.0) (in_row (occurrence_next a hs f) c.count c.next)
+
+abbrev pub ClausesPlaces : Alg → List Header → List ℕ → BodyAt → Option (Row ClauseAt 15) → Type 0
+ClausesPlaces a hs f b r = option_map (λ cs. map clause_told (listed cs)) r ≡ option_map (λ x. x.0) (in_row (clause_next a hs f) b.count b.next)
 
 -- a body that opens at p
 abbrev pub BodyPlaces : Alg → List ℕ → ℕ → Option BodyAt → Type 0
@@ -90,3 +121,19 @@ OccurrenceFound a hs f p r = (c : Scope) (o : Occurrence) (q : ℕ) → length f
 
 abbrev pub EndFound : Alg → List Header → List ℕ → ℕ → Option ℕ → Type 0
 EndFound a hs f p r = (c : Scope) (k : Clause) (q : ℕ) → length f ≤ 65536 → read_clause a hs c f p ≡ next k q → r ≡ Some q
+
+-- one by one, and as many of the ones as of the others
+abbrev pub Pairs : {X Y : Type 0} → (X → Y → Type 0) → List X → List Y → Type 0
+Pairs P [] [] = Unit {0}
+Pairs P [] (y ∷ ys) = ⊥
+Pairs P (x ∷ xs) [] = ⊥
+Pairs P (x ∷ xs) (y ∷ ys) = P x y × Pairs P xs ys
+
+-- occurrences and clauses that are read behind an opening are found one by one
+abbrev pub OccurrencesFound : Alg → List Header → List ℕ → ClauseAt → Option (Row OccurrenceAt 8) → Type 0
+OccurrencesFound a hs f k r = (c : Scope) (os : List Occurrence) (q : ℕ) → length f ≤ 65536 → repeated (read_occurrence a hs c) k.count f k.next ≡ next os q →
+    Found r (λ xs. Pairs (λ x o. (u : ℕ) × OccurrenceOf a f o u x) (listed xs) os)
+
+abbrev pub ClausesFound : Alg → List Header → List ℕ → BodyAt → Option (Row ClauseAt 15) → Type 0
+ClausesFound a hs f b r = (c : Scope) (ks : List Clause) (q : ℕ) → length f ≤ 65536 → repeated (read_clause a hs c) b.count f b.next ≡ next ks q →
+    Found r (λ xs. Pairs (λ x k. (u : ℕ) × ClauseOf a hs c f k u x) (listed xs) ks)

@@ -121,6 +121,7 @@ pub(crate) fn read_values<G: Algebra>(
     ensures zeros { IfOk result (λ vs. vs ≡ padded (front (length sorts.now) vs)) }
 {
     let mut values = [0u8; 15];
+    // By index: of what `iter_mut().zip(..)` has written a proof knows nothing afterwards.
     for (i, sort) in sorts.iter().enumerate() {
         values[i] = read_value(alg, cursor, *sort)?;
     }

@@ -8,7 +8,7 @@ ghost use Rattle.definitions.specs.Values.{kind_known};
 ghost use Rattle.terms.specs.Shapes.{standing};
 ghost use Rattle.terms.specs.Known.{Alike};
 ghost use Rattle.system.specs.Whole.{kept_headers};
-ghost use Rattle.system.specs.Walks.{term_places, counted, clause_end, arguments_of, BodyPlaces, ClausePlaces, OccurrencePlaces, BodyFound, ClauseFound, OccurrenceFound, EndFound};
+ghost use Rattle.system.specs.Walks.{term_places, counted, clause_end, arguments_of, BodyPlaces, ClausePlaces, OccurrencePlaces, BodyFound, ClauseFound, OccurrenceFound, EndFound, in_row, occurrence_next, occurrences_of, OccurrencesPlaces, OccurrencesFound, ClausesPlaces, ClausesFound};
 
 use crate::DEPTH;
 use crate::outline::Outline;
@@ -120,16 +120,60 @@ impl<'a, G: Algebra> Accepted<'a, G> {
         })
     }
 
+    // The occurrences of the clause, and the place behind the last.
+    fn occurrences_at(&self, clause: &ClauseAt) -> Option<(Row<OccurrenceAt, 8>, usize)>
+        ensures { occurrences_of result ≡ in_row (occurrence_next (G.meaning self.now.alg.now) (kept_headers self.now.outline.now) self.now.file.now) clause.now.count clause.now.next }
+    {
+        let mut occurrences = Row::new(OccurrenceAt {
+            target: 0,
+            arguments: Row::new(0),
+            next: 0,
+        });
+        let mut next = clause.next;
+        for _ in 0..clause.count {
+            let occurrence = self.open_occurrence(next)?;
+            occurrences.push(occurrence).unwrap();
+            next = occurrence.next;
+        }
+        Some((occurrences, next))
+    }
+
+    /// The occurrences of the clause, in their order.
+    pub fn occurrences(&self, clause: &ClauseAt) -> Option<Row<OccurrenceAt, 8>>
+        ensures places { OccurrencesPlaces (G.meaning self.now.alg.now) (kept_headers self.now.outline.now) self.now.file.now clause.now result }
+        ensures found { OccurrencesFound (G.meaning self.now.alg.now) (kept_headers self.now.outline.now) self.now.file.now clause.now result }
+    {
+        let (occurrences, _) = self.occurrences_at(clause)?;
+        Some(occurrences)
+    }
+
     /// The place behind the clause at the place.
     pub fn end_of_clause(&self, at: usize) -> Option<usize>
         ensures places { result ≡ clause_end (G.meaning self.now.alg.now) (kept_headers self.now.outline.now) self.now.file.now at }
         ensures found { EndFound (G.meaning self.now.alg.now) (kept_headers self.now.outline.now) self.now.file.now at result }
     {
         let clause = self.open_clause(at)?;
-        let mut next = clause.next;
-        for _ in 0..clause.count {
-            next = self.open_occurrence(next)?.next;
+        let (_, end) = self.occurrences_at(&clause)?;
+        Some(end)
+    }
+
+    /// The clauses of the body, in their order.
+    pub fn clauses(&self, body: &BodyAt) -> Option<Row<ClauseAt, 15>>
+        ensures places { ClausesPlaces (G.meaning self.now.alg.now) (kept_headers self.now.outline.now) self.now.file.now body.now result }
+        ensures found { ClausesFound (G.meaning self.now.alg.now) (kept_headers self.now.outline.now) self.now.file.now body.now result }
+    {
+        let mut clauses = Row::new(ClauseAt {
+            guard: 0,
+            count: 1,
+            next: 0,
+        });
+        let mut next = body.next;
+        for _ in 0..body.count {
+            let clause = self.open_clause(next)?;
+            clauses.push(clause).unwrap();
+            let (_, end) = self.occurrences_at(&clause)?;
+            next = end;
         }
-        Some(next)
+        Some(clauses)
     }
 }

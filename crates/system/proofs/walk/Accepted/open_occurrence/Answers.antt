@@ -1,4 +1,4 @@
-use Rattle.std.proofs.Common.{◌≡◌, ◌<◌, ◌≤◌, List, length, get_or, Some, None, Option, sym, refl, ap, subst, arith, lit≤}
+use Rattle.std.proofs.Common.{◌≡◌, ◌<◌, ◌≤◌, List, length, get_or, Some, None, Option, sym, refl, ap, subst, lit≤}
 use Rattle.rows.specs.Listed.{listed, listed_within}
 use Rattle.terms.proofs.Fields.{field_came}
 use Rattle.system.specs.declared.outline.Equation.{Equation}
