@@ -5,7 +5,7 @@ use rows::Row;
 use system::header::{Quantified, Quantifier};
 use system::instance::Instance;
 use system::value::Environment;
-use system::walk::{Accepted, BodyAt, OccurrenceAt};
+use system::walk::{Accepted, BodyAt, ClauseAt, OccurrenceAt};
 
 // Whether the term at the place is true.
 fn holds<G: Algebra>(accepted: &Accepted<G>, env: &Environment, at: usize) -> bool {
@@ -28,39 +28,19 @@ fn meant<G: Algebra>(
     }
 }
 
-// An any over the occurrences of the clause at the place; the instances come as their tokens are written.
+// An any over the occurrences of the clause; the instances come as their tokens are written.
 fn write_clause<G: Algebra>(
     accepted: &Accepted<G>,
     env: &Environment,
-    at: usize,
+    clause: &ClauseAt,
     draft: &mut Draft,
 ) -> Result<(), Unfinished> {
-    let clause = accepted.open_clause(at).ok_or(Unfinished)?;
     draft.put_parts(Token::Any, clause.count as u32);
-    let mut next = clause.next;
-    for _ in 0..clause.count {
-        let occurrence = accepted.open_occurrence(next).ok_or(Unfinished)?;
-        draft.put_variable(meant(accepted, env, &occurrence))?;
-        next = occurrence.next;
+    let occurrences = accepted.occurrences(clause).ok_or(Unfinished)?;
+    for occurrence in occurrences.as_slice() {
+        draft.put_variable(meant(accepted, env, occurrence))?;
     }
     Ok(())
-}
-
-// The places of the clauses whose guards hold.
-fn holding_clauses<G: Algebra>(
-    accepted: &Accepted<G>,
-    env: &Environment,
-    body: BodyAt,
-) -> Result<Row<usize, 15>, Unfinished> {
-    let mut clauses = Row::new(0);
-    let mut next = body.next;
-    for _ in 0..body.count {
-        if holds(accepted, env, next) {
-            clauses.push(next).or(Err(Unfinished))?;
-        }
-        next = accepted.end_of_clause(next).ok_or(Unfinished)?;
-    }
-    Ok(clauses)
 }
 
 // A constant where h or the lack of holding guards decides, else the clauses whose guards hold.
@@ -74,14 +54,21 @@ fn write_inside<G: Algebra>(
         draft.put_token(Token::False);
         return Ok(());
     }
-    let clauses = holding_clauses(accepted, env, body)?;
-    if clauses.len() == 0 {
+    let clauses = accepted.clauses(&body).ok_or(Unfinished)?;
+    let holding = clauses
+        .as_slice()
+        .iter()
+        .filter(|clause| holds(accepted, env, clause.guard));
+    let count = holding.count();
+    if count == 0 {
         draft.put_token(Token::True);
         return Ok(());
     }
-    draft.put_parts(Token::All, clauses.len() as u32);
+    draft.put_parts(Token::All, count as u32);
     for clause in clauses.as_slice() {
-        write_clause(accepted, env, *clause, draft)?;
+        if holds(accepted, env, clause.guard) {
+            write_clause(accepted, env, clause, draft)?;
+        }
     }
     Ok(())
 }

@@ -16,6 +16,7 @@ use system::instance::Instance;
 use system::reading::read;
 use system::walk::Accepted;
 
+// The limits of an expand, which are told apart from those of a Boolean file's readers: `boolean` and this crate do not see one another.
 /// The most instances.
 pub const INSTANCES: usize = 4096;
 

@@ -6,7 +6,7 @@ use algebra::Algebra;
 use faults::PassFault;
 use system::reading::Outline;
 use system::value::Environment;
-use system::walk::{Accepted, OccurrenceAt};
+use system::walk::{Accepted, ClauseAt, OccurrenceAt};
 
 /// The pass C.
 #[derive(Clone, Copy, PartialEq, Eq, Debug)]
@@ -84,26 +84,23 @@ fn argument_values<G: Algebra>(
     values
 }
 
-// Follows the occurrences of the clause at the place, unless its guard is known false, and tells the place behind it.
+// Follows the occurrences of the clause, unless its guard is known false.
 fn follow_clause<G: Algebra>(
     accepted: &Accepted<G>,
     env: &Environment,
-    at: usize,
+    clause: &ClauseAt,
     knowledge: &mut [Known; 31],
-) -> Result<usize, Missing> {
-    if accepted.known(env, at) == Some(0) {
-        return accepted.end_of_clause(at).ok_or(Missing);
+) -> Result<(), Missing> {
+    if accepted.known(env, clause.guard) == Some(0) {
+        return Ok(());
     }
-    let clause = accepted.open_clause(at).ok_or(Missing)?;
-    let mut next = clause.next;
-    for _ in 0..clause.count {
-        let occurrence = accepted.open_occurrence(next).ok_or(Missing)?;
-        let values = argument_values(accepted, env, &occurrence);
+    let occurrences = accepted.occurrences(clause).ok_or(Missing)?;
+    for occurrence in occurrences.as_slice() {
+        let values = argument_values(accepted, env, occurrence);
         let target = occurrence.target as usize;
         knowledge[target] = knowledge[target].joined(values);
-        next = occurrence.next;
     }
-    Ok(next)
+    Ok(())
 }
 
 // Follows the clauses of the equation whose body stands at the place, unless its h is known false.
@@ -121,9 +118,9 @@ fn follow_equation<G: Algebra>(
     if accepted.known(&env, body.h) == Some(0) {
         return Ok(());
     }
-    let mut next = body.next;
-    for _ in 0..body.count {
-        next = follow_clause(accepted, &env, next, knowledge)?;
+    let clauses = accepted.clauses(&body).ok_or(Missing)?;
+    for clause in clauses.as_slice() {
+        follow_clause(accepted, &env, clause, knowledge)?;
     }
     Ok(())
 }

@@ -49,6 +49,7 @@ impl From<NoSuchPass> for PassFault {
     }
 }
 
+// Each pass is a type of its own, so that a pass of another crate is run like these.
 impl Pass for Named {
     fn apply<G: Algebra>(&self, alg: &G, file: &[u8], out: &mut [u8]) -> Result<usize, PassFault> {
         match self {

@@ -30,7 +30,7 @@ pub struct Change {
 }
 
 impl Change {
-    /// The equation stays as it is.
+    /// The equation stays as it is, which the name says more plainly than `default` would.
     pub fn none() -> Change {
         Change {
             equation: EquationChange::Stays,
@@ -51,7 +51,7 @@ impl Change {
 /// What becomes of a system.
 #[derive(Clone, Copy, PartialEq, Eq, Debug)]
 pub struct Plan {
-    /// Terms with a known value become value terms, and clauses with a false guard go.
+    /// Terms with a known value become value terms, and clauses with a false guard go. One yes or no for the whole system.
     pub fold: bool,
     pub equations: [Change; 31],
 }
@@ -65,7 +65,8 @@ impl Plan {
         }
     }
 
-    /// How many of the first n equations do not go: the new number of the one numbered n.
+    /// How many of the first n equations do not go: the new number of the one numbered n. One function over what is
+    /// counted, for this and for the parameters, would be longer than the two.
     pub fn number_of(&self, n: usize) -> u32 {
         self.equations
             .iter()

@@ -56,10 +56,9 @@ fn marked_come<G: Algebra>(
 ) -> Result<(), Missing> {
     let body = accepted.open_body(numbered.equation.body).ok_or(Missing)?;
     occurring_come(accepted, numbered, body.h, list)?;
-    let mut next = body.next;
-    for _ in 0..body.count {
-        occurring_come(accepted, numbered, next, list)?;
-        next = accepted.end_of_clause(next).ok_or(Missing)?;
+    let clauses = accepted.clauses(&body).ok_or(Missing)?;
+    for clause in clauses.as_slice() {
+        occurring_come(accepted, numbered, clause.guard, list)?;
     }
     Ok(())
 }
@@ -90,14 +89,11 @@ fn pointing_come<G: Algebra>(
     list: &mut FirstCome<Parameter>,
 ) -> Result<(), Missing> {
     let body = accepted.open_body(numbered.equation.body).ok_or(Missing)?;
-    let mut next = body.next;
-    for _ in 0..body.count {
-        let clause = accepted.open_clause(next).ok_or(Missing)?;
-        next = clause.next;
-        for _ in 0..clause.count {
-            let occurrence = accepted.open_occurrence(next).ok_or(Missing)?;
-            feeding_come(accepted, numbered, &occurrence, list)?;
-            next = occurrence.next;
+    let clauses = accepted.clauses(&body).ok_or(Missing)?;
+    for clause in clauses.as_slice() {
+        let occurrences = accepted.occurrences(clause).ok_or(Missing)?;
+        for occurrence in occurrences.as_slice() {
+            feeding_come(accepted, numbered, occurrence, list)?;
         }
     }
     Ok(())

@@ -7,11 +7,10 @@ use crate::written::{Edit, write_value};
 use algebra::Algebra;
 use bits::{BitWriter, Full, deliver};
 use faults::{PassFault, Reason};
-use rows::Row;
 use system::LONGEST;
 use system::header::Header;
 use system::reading::{Equation, read};
-use system::walk::{Accepted, BodyAt};
+use system::walk::{Accepted, ClauseAt, OccurrenceAt};
 
 // A header without the parameters that do not stay, and without quantified variables if it becomes bare.
 fn write_header(header: &Header, change: &Change, writer: &mut BitWriter) -> Result<(), Full> {
@@ -34,9 +33,12 @@ fn write_header(header: &Header, change: &Change, writer: &mut BitWriter) -> Res
 }
 
 impl<'a, G: Algebra> Edit<'a, G> {
-    // An occurrence without the arguments of parameters that do not stay, and the place behind it.
-    fn write_occurrence(&self, at: usize, writer: &mut BitWriter) -> Result<usize, Full> {
-        let occurrence = self.accepted.open_occurrence(at).ok_or(Full)?;
+    // An occurrence without the arguments of parameters that do not stay.
+    fn write_occurrence(
+        &self,
+        occurrence: &OccurrenceAt,
+        writer: &mut BitWriter,
+    ) -> Result<(), Full> {
         let target = occurrence.target as usize;
         writer.put(self.plan.number_of(target), 5)?;
         let changes = &self.plan.equations[target].parameters;
@@ -45,42 +47,39 @@ impl<'a, G: Algebra> Edit<'a, G> {
                 self.write_term(*argument, writer)?;
             }
         }
-        Ok(occurrence.next)
+        Ok(())
     }
 
-    // The clause at the place.
-    fn write_clause(&self, at: usize, writer: &mut BitWriter) -> Result<(), Full> {
-        let clause = self.accepted.open_clause(at).ok_or(Full)?;
+    // A clause.
+    fn write_clause(&self, clause: &ClauseAt, writer: &mut BitWriter) -> Result<(), Full> {
         self.write_term(clause.guard, writer)?;
         writer.put(clause.count as u32 - 1, 3)?;
-        let mut next = clause.next;
-        for _ in 0..clause.count {
-            next = self.write_occurrence(next, writer)?;
+        let occurrences = self.accepted.occurrences(clause).ok_or(Full)?;
+        for occurrence in occurrences.as_slice() {
+            self.write_occurrence(occurrence, writer)?;
         }
         Ok(())
     }
 
-    // The places of the clauses that stay; where all folds, those whose guard is known false though nothing is known go.
-    fn staying_clauses(&self, body: BodyAt) -> Result<Row<usize, 15>, Full> {
-        let mut clauses = Row::new(0);
-        let mut next = body.next;
-        for _ in 0..body.count {
-            if !self.plan.fold || !folds_to_false(self.accepted, next) {
-                clauses.push(next).or(Err(Full))?;
-            }
-            next = self.accepted.end_of_clause(next).ok_or(Full)?;
-        }
-        Ok(clauses)
+    // Whether the clause stays; where all folds, one whose guard is known false though nothing is known goes.
+    fn stays(&self, clause: &ClauseAt) -> bool {
+        !self.plan.fold || !folds_to_false(self.accepted, clause.guard)
     }
 
     // The body at the place.
     fn write_body(&self, at: usize, writer: &mut BitWriter) -> Result<(), Full> {
         let body = self.accepted.open_body(at).ok_or(Full)?;
         self.write_term(body.h, writer)?;
-        let clauses = self.staying_clauses(body)?;
-        writer.put(clauses.len() as u32, 4)?;
+        let clauses = self.accepted.clauses(&body).ok_or(Full)?;
+        let staying = clauses
+            .as_slice()
+            .iter()
+            .filter(|clause| self.stays(clause));
+        writer.put(staying.count() as u32, 4)?;
         for clause in clauses.as_slice() {
-            self.write_clause(*clause, writer)?;
+            if self.stays(clause) {
+                self.write_clause(clause, writer)?;
+            }
         }
         Ok(())
     }

@@ -24,17 +24,14 @@ fn targets_come<G: Algebra>(
     list: &mut FirstCome<EquationNumber>,
 ) -> Result<(), Missing> {
     let body = accepted.open_body(at).ok_or(Missing)?;
-    let mut next = body.next;
-    for _ in 0..body.count {
-        let clause = accepted.open_clause(next).ok_or(Missing)?;
-        next = clause.next;
-        for _ in 0..clause.count {
-            let occurrence = accepted.open_occurrence(next).ok_or(Missing)?;
+    let clauses = accepted.clauses(&body).ok_or(Missing)?;
+    for clause in clauses.as_slice() {
+        let occurrences = accepted.occurrences(clause).ok_or(Missing)?;
+        for occurrence in occurrences.as_slice() {
             let target = EquationNumber {
                 index: occurrence.target as usize,
             };
             list.come(target).ok_or(Missing)?;
-            next = occurrence.next;
         }
     }
     Ok(())

@@ -7,7 +7,7 @@ use system::value::{Environment, known_value};
 use system::view::{Parts, Term, View, read_term};
 use system::walk::Accepted;
 
-/// The kind of a term as it is written.
+/// The kind of a term as it is written: its number alone, where a `Term` has its parts too.
 #[derive(Clone, Copy, PartialEq, Eq, Debug)]
 enum Kind {
     Parameter = 0,
