@@ -12,15 +12,6 @@ use Rattle.definitions.specs.Past.{loads}
 use Rattle.definitions.specs.Histories.{Follows}
 use Rattle.theorems.proofs.Main.{follows}
 
--- a file that is read is not longer than a system file may be
-pub read_short : (a : Alg) (f : List ℕ) (s : System) → reading a f ≡ got s → length f ≤ 8192
-read_short a f s e = go (eqb (length f) 0) (ltb 8192 (length f)) refl e
-  where
-    go : (b c : Bool) → ltb 8192 (length f) ≡ c → elim (b || c) as (λ _. Reading System) [ true ↦ bad BadLength 0 | false ↦ ended (complete (read_system a) f 0) ] ≡ got s → length f ≤ 8192
-    go true c t e = absurd cc
-    go false true t e = absurd cc
-    go false false t e = omega (arith, ltb-false 8192 (length f) t)
-
 -- the elements of a slice of bytes are bytes
 are_bytes : (f : List ℕ) → ((i : ℕ) → get_or f i 0 < 256) → Bytes f
 are_bytes [] h = tt

@@ -122,6 +122,7 @@ impl Bench {
                 return Ok(round);
             }
         }
+        // Rounds do not run out.
         Ok(65537)
     }
 }

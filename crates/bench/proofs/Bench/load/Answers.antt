@@ -2,7 +2,8 @@ use Rattle.std.proofs.Common.{◌≡◌, Ok, Err, length, take, ap, ◌∙◌, a
 use Rattle.std.proofs.lemmas.Result.{err_from_is_err_and}
 use Rattle.bench.specs.Holds.{holding}
 use Rattle.bench.proofs.Tails.{zeros, tail_zero, seam_front, seam_rest}
-use Rattle.bench.proofs.Held.{read_short, declined_load, load_follows}
+use Rattle.system.proofs.Outlines.{got_short}
+use Rattle.bench.proofs.Held.{declined_load, load_follows}
 use Rattle.bench.proofs.Bench.load.Goals as goal
 
 pub returns-in_err-read-clause-history : goal.returns-in_err-read-clause-history
@@ -19,7 +20,7 @@ invariant_of-self g c =
     let n : c.unwrap-len.result ≡ length c.args.file.now = rw c.unwrap-len.ensures at c.deliver.ensures.count in
     let e = rw c.unwrap-len.ensures at c.deliver.ensures.delivered in
     record {
-      bound = omega (arith, n, read_short (g.G.Algebra.meaning c.args.alg.now) c.args.file.now d.0 d.1.0);
+      bound = omega (arith, n, got_short (g.G.Algebra.meaning c.args.alg.now) c.args.file.now d.0 d.1.0);
       zeros = λ k h. tail_zero (length c.args.file.now) c.deliver.new.out _ (seam_rest c.args.file.now _ _ e) (zeros 8192) k (omega (arith, n, h));
     }
 
