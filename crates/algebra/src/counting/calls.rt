@@ -161,12 +161,7 @@ impl Algebra for Counting {
     }
 
     fn arg_sort(&self, op: u8, k: u8) -> Option<u8> {
-        // By `then_some` the proof did not close: it knows the answer by its test alone.
-        if k < self.arity(op)? {
-            Some(op / 4 + 1)
-        } else {
-            None
-        }
+        (k < self.arity(op)?).then_some(op / 4 + 1)
     }
 
     fn result_sort(&self, op: u8) -> Option<u8> {

@@ -1,14 +1,6 @@
-use Rattle.std.proofs.Common.{ℕ, ◌+◌, ◌/◌, ◌%◌, min, List, map, refl}
-use Rattle.definitions.specs.Lists.{up_to}
-use Rattle.algebra.proofs.Levels.{table_at}
+use Rattle.std.proofs.Common.{◌+◌, min}
+use Rattle.algebra.proofs.Levels.{pair_at}
 use Rattle.algebra.proofs.level.sum.Goals as goal
 
-abbrev rule : ℕ → ℕ → ℕ
-rule a b = min (a + b) 15
-
--- the constant table is the rule at each of its 256 places
-abbrev table : List ℕ
-table = map (λ k. rule (k / 16) (k % 16)) (up_to 256)
-
 pub returns : goal.returns
-returns c = table_at rule table refl tt c.args.a c.args.b c.requires.first c.requires.second
+returns c = pair_at (λ a b. min (a + b) 15) c.args.a c.args.b c.requires.first c.requires.second
