@@ -52,6 +52,7 @@ impl Counting {
     pub fn fill(&mut self, sizes: &[u16]) -> Result<(), TableFault>
         ensures { elim result [ Ok _ ↦ (countable sizes.now ≡ true) × (counted self.new ≡ counting sizes.now) | Err e ↦ (countable sizes.now ≡ false) × (e ≡ record { reason = BadCountingSizes; place = 0 }) × (self.new ≡ self.old) ] }
     {
+        // A test of the definitions, which the proof cites; so it answers a bool.
         if !all_fit(sizes) {
             return Err(TableFault {
                 reason: Reason::BadCountingSizes,
@@ -139,6 +140,8 @@ impl Algebra for Counting {
     ghost meaning = { counted };
 
     ghost lawful = { counted_lawful };
+
+    // An operation is named by its number: each sort has four, and the fourth, `less`, alone has two arguments and a truth.
 
     fn sorts(&self) -> u8 {
         self.sizes.as_slice().len() as u8 + 1
