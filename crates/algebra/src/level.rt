@@ -1,11 +1,13 @@
 //! The level algebra: sixteen water steps.
-ghost use Rattle.std.specs.Prelude.{◌≡◌, ◌+◌, ◌-◌, ◌<◌, min};
+ghost use Rattle.std.specs.Prelude.{◌≡◌, ◌+◌, ◌*◌, ◌<◌, slice_index};
 ghost use Rattle.definitions.specs.Algebras.{level as level_alg};
 ghost use Rattle.algebra.specs.Lawfuls.{level_lawful};
 
 use crate::Algebra;
 
-// the pair (a, b) stands at 16a + b
+// In a table of pairs (a, b) stands at 16a + b.
+
+// The sum, stopped at 15.
 const SUM: [u8; 256] = [
     0, 1, 2, 3, 4, 5, 6, 7, 8, 9, 10, 11, 12, 13, 14, 15, 1, 2, 3, 4, 5, 6, 7, 8, 9, 10, 11, 12,
     13, 14, 15, 15, 2, 3, 4, 5, 6, 7, 8, 9, 10, 11, 12, 13, 14, 15, 15, 15, 3, 4, 5, 6, 7, 8, 9,
@@ -20,6 +22,7 @@ const SUM: [u8; 256] = [
     15, 15, 15, 15, 15,
 ];
 
+// The larger less the smaller.
 const DISTANCE: [u8; 256] = [
     0, 1, 2, 3, 4, 5, 6, 7, 8, 9, 10, 11, 12, 13, 14, 15, 1, 0, 1, 2, 3, 4, 5, 6, 7, 8, 9, 10, 11,
     12, 13, 14, 2, 1, 0, 1, 2, 3, 4, 5, 6, 7, 8, 9, 10, 11, 12, 13, 3, 2, 1, 0, 1, 2, 3, 4, 5, 6,
@@ -32,22 +35,13 @@ const DISTANCE: [u8; 256] = [
     15, 14, 13, 12, 11, 10, 9, 8, 7, 6, 5, 4, 3, 2, 1, 0,
 ];
 
-/// The sum, stopped at 15.
-fn sum(a: u8, b: u8) -> u8
+/// The entry at (a, b) of a table of pairs.
+fn entry(table: &[u8; 256], a: u8, b: u8) -> u8
     requires first { a < 16 }
     requires second { b < 16 }
-    ensures { result ≡ min (a + b) 15 }
+    ensures { result ≡ slice_index table.now (16 * a + b) }
 {
-    SUM[16 * a as usize + b as usize]
-}
-
-/// The larger less the smaller.
-fn distance(a: u8, b: u8) -> u8
-    requires first { a < 16 }
-    requires second { b < 16 }
-    ensures { result ≡ (a - b) + (b - a) }
-{
-    DISTANCE[16 * a as usize + b as usize]
+    table[16 * a as usize + b as usize]
 }
 
 /// The level algebra.
@@ -58,6 +52,8 @@ impl Algebra for Level {
     ghost meaning = { λ _. level_alg };
 
     ghost lawful = { λ x. level_lawful };
+
+    // Questions name sorts and operations by number; each is answered where it is asked.
 
     fn sorts(&self) -> u8 {
         2
@@ -100,8 +96,8 @@ impl Algebra for Level {
         }
         // Files and questions name an operation by its number; an enum would be made of it and matched in the same place.
         match op {
-            0 => Some(sum(a, b)),
-            1 => Some(distance(a, b)),
+            0 => Some(entry(&SUM, a, b)),
+            1 => Some(entry(&DISTANCE, a, b)),
             2 => Some((a >= b) as u8),
             _ => None,
         }

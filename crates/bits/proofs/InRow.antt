@@ -1,26 +1,19 @@
 -- Readings in a row, one more at a time.
-use Rattle.std.proofs.Common.{◌≡◌, ℕ, zero, suc, ◌+◌, ◌-◌, ◌<◌, List, [], ◌∷◌, ◌++◌, IsErrAnd, Ok, Err, Result, sym, refl, ap, ◌∙◌, arith, length-append}
+use Rattle.std.proofs.Common.{◌≡◌, ℕ, zero, suc, ◌+◌, ◌-◌, ◌<◌, List, [], ◌∷◌, ◌++◌, IsErrAnd, Ok, Err, Result, sym, refl, ap, ◌∙◌, arith, append_assoc, length-append}
+use Rattle.std.proofs.lemmas.List.{append-nil}
 use Rattle.faults.specs.declared.Stop.{Stop}
 use Rattle.definitions.specs.Reading.{Step, next, stop, Reader, follow, repeated}
 use Rattle.bits.specs.declared.file.Cursor.{Cursor}
 use Rattle.bits.specs.Told.{told, Reads}
 use Rattle.bits.specs.InRow.{before, Begun}
 
-snoc : {X : Type 0} (xs : List X) (x : X) (ys : List X) → xs ++ (x ∷ ys) ≡ (xs ++ (x ∷ [])) ++ ys
-snoc [] x ys = refl
-snoc (y ∷ xs) x ys = ap (λ zs. y ∷ zs) (snoc xs x ys)
-
-snoc_at : {X : Type 0} (xs : List X) (x : X) (m : Step (List X)) → before xs (follow m (λ ys q. next (x ∷ ys) q)) ≡ before (xs ++ (x ∷ [])) m
-snoc_at xs x (next ys q) = ap (λ zs. next zs q) (snoc xs x ys)
+pub snoc_at : {X : Type 0} (xs : List X) (x : X) (m : Step (List X)) → before xs (follow m (λ ys q. next (x ∷ ys) q)) ≡ before (xs ++ (x ∷ [])) m
+snoc_at xs x (next ys q) = ap (λ zs. next zs q) (sym (append_assoc xs (x ∷ []) ys))
 snoc_at xs x (stop r q) = refl
 
-begin : {X : Type 0} (m : Step (List X)) → m ≡ before [] m
+pub begin : {X : Type 0} (m : Step (List X)) → m ≡ before [] m
 begin (next ys q) = refl
 begin (stop r q) = refl
-
-nil : {X : Type 0} (xs : List X) → xs ++ [] ≡ xs
-nil [] = refl
-nil (x ∷ xs) = ap (λ ys. x ∷ ys) (nil xs)
 
 -- what `?` hands on
 pub passed : {T E : Type 0} (r : Result T E) (e : E) → IsErrAnd r (λ y. y ≡ e) → r ≡ Err e
@@ -64,4 +57,4 @@ module _ {X : Type 0} (r : Reader X) where
   pub begun_end : {n i : ℕ} {xs : List X} {old new : Cursor} → n ≡ i → Begun r n i xs old new → next xs new.at ≡ repeated r n old.bytes.now old.at
   begun_end {n = n} {i = i} {xs = xs} {old = old} {new = new} h b =
       let e : n - i ≡ 0 = omega arith in
-      sym (b.rest ∙ ap (λ w. before xs (repeated r w old.bytes.now new.at)) e ∙ ap (λ ys. next ys new.at) (nil xs))
+      sym (b.rest ∙ ap (λ w. before xs (repeated r w old.bytes.now new.at)) e ∙ ap (λ ys. next ys new.at) (append-nil xs))

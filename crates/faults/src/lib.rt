@@ -55,6 +55,7 @@ impl Reason {
     pub fn number(self) -> u8
         ensures { result ≡ number_of self }
     {
+        // The case's own number; a name says at its use what a cast would not.
         self as u8
     }
 }
@@ -112,6 +113,7 @@ pub enum PassFault {
 #[derive(Clone, Copy, PartialEq, Eq, Debug)]
 pub struct Halt {
     pub fault: PassFault,
+    // The format of a refusal tells the letter's byte.
     pub letter: u8,
     pub round: usize,
 }

@@ -36,6 +36,8 @@ enum Stopped {
     Failed(io::Error),
 }
 
+// Three conversions, so that `?` hands on what each call tells.
+
 impl From<Fault> for Stopped {
     fn from(fault: Fault) -> Stopped {
         Stopped::Declined(fault)
@@ -122,6 +124,7 @@ fn answer(rt: &HostRuntime, input: &[u8]) -> Result<Verdict, Stopped> {
 }
 
 fn main(rt: HostRuntime) -> io::Result<()> {
+    // Each program reads all of its input and answers it; what it reads and prints is its own.
     let mut input = Vec::new(rt.alloc());
     rt.stdin().read_to_end(&mut input)?;
     match answer(&rt, &input) {

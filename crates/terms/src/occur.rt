@@ -17,6 +17,7 @@ fn occurs_at<G: Algebra>(alg: &G, view: View, k: u8, depth: u8) -> bool
     if depth == 0 {
         return false;
     }
+    // The answer is a bool, which `?` cannot leave.
     let Some(term) = read_term(alg, view, depth) else {
         return false;
     };
@@ -57,7 +58,7 @@ pub fn occurs<G: Algebra>(alg: &G, view: View, k: u8, depth: u8) -> bool
     ensures value { result ≡ occurs_at k (standing (G.meaning alg.now) depth view.entry.bytes.now view.entry.at) }
     ensures accepted { (c : Scope) (need : Option ℕ) (x : Sorted) (q : ℕ) → length view.entry.bytes.now ≤ 65536 → read_term (G.meaning alg.now) c depth need view.entry.bytes.now view.entry.at ≡ next x q → result ≡ occurs_in k x.the_term }
 {
-    // The answer is no Option, so `?` cannot say it; where no term stands, nothing occurs.
+    // The answer is a bool, which `?` cannot leave; where no term stands, nothing occurs.
     let Some(_) = end_of_term(alg, view, depth) else {
         return false;
     };

@@ -26,6 +26,7 @@ impl Environment {
         ensures parameters { result.parameters ≡ replicate 15 None }
         ensures variables { result.variables ≡ replicate 3 None }
     {
+        // The name says more than `default` would.
         Environment {
             parameters: [None; 15],
             variables: [None; 3],
@@ -46,6 +47,7 @@ fn both(x: Option<u8>, y: Option<u8>) -> Option<u8>
 }
 
 // True if a part is known true, false if both are known false.
+// Said by `both` it would take the opposite of each part and of the answer, which is no shorter.
 fn either(x: Option<u8>, y: Option<u8>) -> Option<u8>
     ensures { result ≡ either_known x y }
 {

@@ -38,6 +38,7 @@ pub struct Opening {
 /// The arguments of an operation.
 #[derive(Clone, Copy, PartialEq, Eq, Debug)]
 pub enum Parts<'a> {
+    // A case for each number: a library vector needs the heap, and a row would hold filler views.
     Zero,
     One(View<'a>),
     Two(View<'a>, View<'a>),
@@ -139,6 +140,7 @@ fn split<'a, G: Algebra>(alg: &G, first: View<'a>, count: u8, depth: u8) -> Opti
     ensures reads { bind result (parts_of (G.meaning alg.now) depth) ≡ what (row (shape (G.meaning alg.now) depth) count first.entry.bytes.now first.entry.at) }
     ensures within { IfSome result (PartsIn first.entry.bytes.now) }
 {
+    // Here the number of arguments becomes a case of `Parts`.
     match count {
         0 => Some(Parts::Zero),
         1 => Some(Parts::One(first)),

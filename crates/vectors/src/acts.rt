@@ -13,6 +13,8 @@ use std::alloc::{AllocError, Global};
 use std::io;
 use system::instance::Instance;
 
+// Each call has arguments, results and faults of its own, so the functions here share a shape and no line.
+
 // What work memory is filled with.
 const NOBODY: Instance = Instance {
     equation: 0,
@@ -28,6 +30,7 @@ fn held_text(heap: Global, bench: &Bench) -> Result<String, AllocError> {
 /// Loads the file.
 pub fn load<G: Algebra>(heap: Global, desk: &mut Desk, alg: &G) -> Result<String, AllocError> {
     let before = desk.bench;
+    // Copied out and back: a field cannot be lent while another of the same lent struct is read.
     let mut bench = before;
     let result = bench.load(alg, desk.made());
     desk.bench = bench;
@@ -61,17 +64,15 @@ pub fn run<G: Algebra>(
     alg: &G,
     letter: char,
 ) -> Result<String, AllocError> {
+    // A script names a pass by its letter; what the letter stands for is the library's to say.
     let before = desk.bench;
-    let mut bench = before;
-    let result = bench.run_letter(alg, letter);
-    desk.bench = bench;
-    match result {
-        Ok(()) => held_text(heap, &bench),
+    match desk.bench.run_letter(alg, letter) {
+        Ok(()) => held_text(heap, &desk.bench),
         Err(fault) => bench_kept(
             heap,
             refused_pass(heap, fault)?,
             before.held(),
-            bench.held(),
+            desk.bench.held(),
         ),
     }
 }
@@ -97,12 +98,9 @@ pub fn apply<G: Algebra>(
 /// Settles what the bench holds.
 pub fn settle<G: Algebra>(heap: Global, desk: &mut Desk, alg: &G) -> Result<String, AllocError> {
     let before = desk.bench;
-    let mut bench = before;
-    let result = bench.settle(alg);
-    desk.bench = bench;
-    match result {
+    match desk.bench.settle(alg) {
         Ok(rounds) => {
-            let text = held_text(heap, &bench)?;
+            let text = held_text(heap, &desk.bench)?;
             format!(in heap; "{rounds} rounds, {text}")
         }
         Err(fault) => {
@@ -110,7 +108,7 @@ pub fn settle<G: Algebra>(heap: Global, desk: &mut Desk, alg: &G) -> Result<Stri
             let letter = fault.halt.letter;
             let round = fault.halt.round;
             let refusal = format!(in heap; "{text} of letter {letter} in round {round}")?;
-            bench_kept(heap, refusal, before.held(), bench.held())
+            bench_kept(heap, refusal, before.held(), desk.bench.held())
         }
     }
 }
@@ -141,8 +139,7 @@ pub fn expand<G: Algebra>(
 ) -> Result<String, AllocError> {
     let mut work = vec![in heap; NOBODY; places]?;
     let mut buffer = vec![in heap; FILLING; room]?;
-    let bench = desk.bench;
-    let result = bench.expand(alg, &mut work, &mut buffer);
+    let result = desk.bench.expand(alg, &mut work, &mut buffer);
     if let Ok(expansion) = result {
         desk.take(buffer.get(..expansion.len).unwrap_or(&buffer));
     }

@@ -8,6 +8,8 @@ use std::alloc::{AllocError, Global};
 use std::fmt::Write;
 use std::{fmt, io};
 
+// A script's numbers are cut to what is asked for by a mask: no conversion of the library cuts.
+
 fn filled(heap: Global, outcome: Result<(), TableFault>) -> Result<String, AllocError> {
     match outcome {
         Ok(()) => String::from_str(heap, "filled"),
@@ -28,6 +30,7 @@ pub fn fill_counting(heap: Global, desk: &mut Desk, line: &Line) -> Result<Strin
 
 /// Fills the table algebra from the file, and chooses it.
 pub fn fill_table(heap: Global, desk: &mut Desk) -> Result<String, AllocError> {
+    // Copied out and back: a field cannot be lent while another of the same lent struct is read.
     let mut table = desk.table;
     let result = table.fill(desk.made());
     desk.table = table;
@@ -77,6 +80,7 @@ pub fn ask<G: Algebra>(heap: Global, alg: &G, line: &Line) -> Result<String, All
         .iter()
         .map(|number| (*number & 0xff) as u8)
         .collect::<Vec<u8>>(heap)?;
+    // What a line leaves out is 0.
     let op = bytes.first().copied().unwrap_or(0);
     let arguments = bytes.get(1..).unwrap_or(&bytes);
     let arity = Answer(alg.arity(op));

@@ -19,6 +19,7 @@ pub struct Desk<'a> {
     pub chosen: Chosen,
     pub bench: Bench,
     pub file: &'a mut [u8],
+    // A place, no length: behind the last bit that was written, where the next fields go.
     pub bits: usize,
 }
 
@@ -51,12 +52,14 @@ impl<'a> Desk<'a> {
     /// The byte of the file becomes another.
     pub fn set_byte(&mut self, i: usize, value: u32) {
         if let Some(byte) = self.file.get_mut(i) {
+            // Cut by a mask: no conversion of the library cuts.
             *byte = (value & 0xff) as u8;
         }
     }
 
     /// The file becomes the one that the bench holds.
     pub fn take_held(&mut self) {
+        // Copied out: a field cannot be lent while another of the same lent struct is written.
         let bench = self.bench;
         self.take(bench.held());
     }

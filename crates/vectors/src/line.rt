@@ -28,6 +28,7 @@ impl<'a> Line<'a> {
 
     /// The i-th of the words that are numbers, or 0.
     pub fn number(&self, i: usize) -> u32 {
+        // One word is found without the heap, which `numbers` needs.
         self.rest
             .split_whitespace()
             .filter_map(|word| word.parse::<u32>().ok())

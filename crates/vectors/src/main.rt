@@ -23,6 +23,8 @@ use std::io;
 use std::io::Read;
 use std::str::from_utf8;
 
+// Commands are of three kinds, by what they are given and whether they tell an outcome, so their words stand in three lists.
+
 // The commands that question an algebra or use it.
 fn act<G: Algebra>(rt: &HostRuntime, desk: &mut Desk, alg: &G, line: &Line) -> io::Result<()> {
     let heap = rt.alloc();
@@ -45,6 +47,7 @@ fn act<G: Algebra>(rt: &HostRuntime, desk: &mut Desk, alg: &G, line: &Line) -> i
 fn act_on_chosen(rt: &HostRuntime, desk: &mut Desk, line: &Line) -> io::Result<()> {
     match desk.chosen {
         Chosen::Counting => {
+            // Copied out, as the table below: a field cannot be lent beside the struct that it lies in.
             let counting = desk.counting;
             act(rt, desk, &counting, line)
         }

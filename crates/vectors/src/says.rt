@@ -64,7 +64,7 @@ pub fn bench_kept(
     format!(in heap; "{refusal}, {kept}")
 }
 
-// Whether all bytes behind the first ones are as they were filled.
+// Whether all bytes behind the first ones are as they were filled. A call tells how many it wrote, and this looks at the others.
 fn rest_kept(buffer: &[u8], len: usize) -> &'static str {
     if buffer.iter().skip(len).all(|byte| *byte == FILLING) {
         "rest kept"

@@ -52,6 +52,7 @@ impl Counting {
     pub fn fill(&mut self, sizes: &[u16]) -> Result<(), TableFault>
         ensures { elim result [ Ok _ ↦ (countable sizes.now ≡ true) × (counted self.new ≡ counting sizes.now) | Err e ↦ (countable sizes.now ≡ false) × (e ≡ record { reason = BadCountingSizes; place = 0 }) × (self.new ≡ self.old) ] }
     {
+        // A test of the definitions, which the proof cites; so it answers a bool.
         if !all_fit(sizes) {
             return Err(TableFault {
                 reason: Reason::BadCountingSizes,
@@ -140,6 +141,8 @@ impl Algebra for Counting {
 
     ghost lawful = { counted_lawful };
 
+    // An operation is named by its number: each sort has four, and the fourth, `less`, alone has two arguments and a truth.
+
     fn sorts(&self) -> u8 {
         self.sizes.as_slice().len() as u8 + 1
     }
@@ -161,12 +164,7 @@ impl Algebra for Counting {
     }
 
     fn arg_sort(&self, op: u8, k: u8) -> Option<u8> {
-        // By `then_some` the proof did not close: it knows the answer by its test alone.
-        if k < self.arity(op)? {
-            Some(op / 4 + 1)
-        } else {
-            None
-        }
+        (k < self.arity(op)?).then_some(op / 4 + 1)
     }
 
     fn result_sort(&self, op: u8) -> Option<u8> {

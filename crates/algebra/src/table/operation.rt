@@ -10,12 +10,14 @@ use rows::Row;
 pub struct Operation {
     pub sorts: Row<u8, 3>,
     pub result: u8,
+    // No heap is used, so one row of fixed size holds the values of all operations.
     pub offset: usize,
 }
 
 impl Operation {
     /// No operation at all: what fills the places of a row that are not in use.
     pub fn filler() -> Operation {
+        // The name says more than `default` would: a row needs a value for the places that are not in use.
         Operation {
             sorts: Row::new(0),
             result: 0,

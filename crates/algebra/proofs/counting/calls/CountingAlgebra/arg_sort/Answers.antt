@@ -1,16 +1,21 @@
-use Rattle.std.proofs.Common.{sym, ◌∙◌, arith}
+use Rattle.std.proofs.Common.{◌≡◌, ◌+◌, ◌/◌, true, false, ltb, sym, refl, ◌∙◌, arith}
+use Rattle.std.proofs.lemmas.Bool.{ltb-true, ltb-false}
+use Rattle.std.specs.Bool.{then_some}
 use Rattle.rows.specs.Listed.{listed}
+use Rattle.definitions.specs.Algebras.{counting}
 use Rattle.algebra.specs.Lists.{some_inj}
 use Rattle.algebra.specs.Counted.{counted_lawful}
 use Rattle.algebra.proofs.Counts.{arg_own, arity_in}
 use Rattle.algebra.proofs.counting.calls.CountingAlgebra.arg_sort.Goals as goal
 
-pub returns-then-branch : goal.returns-then-branch
-returns-then-branch c =
+pub returns : goal.returns
+returns c =
     let ns = listed c.args.self.now.sizes in
+    let op = c.args.op in
+    let k = c.args.k in
+    let m = c.in_ok-arity.field-0 in
     let e = c.in_ok-arity.ensures in
-    arg_own ns c.args.op (arity_in ns c.args.op c.in_ok-arity.field-0 e) c.in_ok-arity.field-0 c.args.k e c.if-branch.true
-
-pub returns-else-branch : goal.returns-else-branch
-returns-else-branch c =
-    sym ((counted_lawful c.args.self.now).no_arg c.args.op c.args.k (λ n e. let i = some_inj c.in_ok-arity.field-0 n (c.in_ok-arity.ensures ∙ e) in omega arith))
+    c.then_some.ensures ∙ elim (ltb k m) as (λ b. ltb k m ≡ b → then_some b (op / 4 + 1) ≡ (counting ns).arg_sort op k) [
+      | true ↦ λ t. arg_own ns op (arity_in ns op m e) m k e (ltb-true k m t)
+      | false ↦ λ t. sym ((counted_lawful c.args.self.now).no_arg op k (λ n i. let j = some_inj m n (e ∙ i) in omega (arith, ltb-false k m t)))
+    ] refl
