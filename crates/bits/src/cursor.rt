@@ -60,6 +60,7 @@ impl<'a> Cursor<'a> {
             bytes: self.bytes,
             at: self.at,
         };
+        // The padding read as a number, which is 0 where every bit is.
         match reader.next((total - self.at) as u32) {
             Some(0) => Ok(()),
             _ => Err(stop),

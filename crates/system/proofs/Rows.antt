@@ -1,6 +1,6 @@
 -- Readings of one thing after another.
 use Rattle.std.proofs.Common.{◌≡◌, ℕ, zero, suc, ◌+◌, ◌<◌, ◌≤◌, List, [], ◌∷◌, ◌++◌, length, drop, Some, IsErrAnd, Result, sym, refl, ap, ◌∙◌, zero-add, add-one, arith}
-use Rattle.std.proofs.lemmas.List.{append-nil, append_assoc, drop_all}
+use Rattle.std.proofs.lemmas.List.{append-nil, drop_all}
 use Rattle.faults.specs.declared.Reason.{Reason}
 use Rattle.faults.specs.declared.Stop.{Stop}
 use Rattle.definitions.specs.Lists.{at, from, up_to}
@@ -9,7 +9,7 @@ use Rattle.definitions.specs.ReadSystem.{Sorted}
 use Rattle.bits.specs.declared.file.Cursor.{Cursor}
 use Rattle.bits.specs.InRow.{before}
 use Rattle.bits.specs.Told.{told, Reads}
-use Rattle.bits.proofs.InRow.{passed}
+use Rattle.bits.proofs.InRow.{snoc_at, begin, passed}
 use Rattle.system.specs.Steps.{sorts, placed}
 use Rattle.system.specs.Rows.{Skipped, Kept}
 
@@ -42,17 +42,9 @@ stop_at : {A B : Type 0} (k : B → ℕ → Step A) (r : Reason) (q : ℕ) (m : 
 stop_at k r q (next y t) e = let z : ◌≡◌ {A = ℕ} 0 1 = cc in absurd (omega arith)
 stop_at k r q (stop s t) e = e
 
-snoc_at : {X : Type 0} (xs : List X) (x : X) (m : Step (List X)) → before xs (follow m (λ ys q. next (x ∷ ys) q)) ≡ before (xs ++ (x ∷ [])) m
-snoc_at xs x (next ys q) = ap (λ zs. next zs q) (sym (append_assoc xs (x ∷ []) ys))
-snoc_at xs x (stop r q) = refl
-
 module _ {X B : Type 0} (r : X → Reader B) (xs : List X) where
   pub kept_first : (c : Cursor) (f : List ℕ) → c.bytes.now ≡ f → Kept r xs 0 [] f c.at c
   kept_first c f e = record { same = e; rest = begin (one_by_one r xs f c.at) }
-    where
-      begin : (m : Step (List B)) → m ≡ before [] m
-      begin (next ys q) = refl
-      begin (stop s q) = refl
 
   pub skipped_next : {i : ℕ} {f : List ℕ} {p : ℕ} {now : Cursor} (new : Cursor) (x : X) → at xs i ≡ Some x → Skipped r xs i f p now → (next tt new.at ≡ placed (r x now.bytes.now now.at)) × (new.bytes.now ≡ now.bytes.now) → Skipped r xs (i + 1) f p new
   skipped_next {i = i} {f = f} {now = now} new x h b k = record {

@@ -1,4 +1,6 @@
 //! Reading a table file.
+//!
+//! Its loops differ in what they read; one over a closure would need a clause about every kind of record that a reader reads.
 ghost use Rattle.std.specs.Prelude.{◌≡◌, ◌+◌, ◌*◌, ◌≤◌, true, [], ◌∷◌, map, length, take, drop, IfOk, nat_lt};
 ghost use Rattle.faults.specs.declared.Reason.TheVariants.{NoSuchSort, ValueTooLarge};
 ghost use Rattle.rows.specs.Listed.{listed};
