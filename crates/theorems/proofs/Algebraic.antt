@@ -13,7 +13,8 @@ use Rattle.definitions.specs.FileFits.{OpFits, TableFits}
 use Rattle.definitions.specs.Tables.{TableOp, Table, place_of, tabled, table, table_reading}
 use Rattle.definitions.specs.Calls.{Bytes, Filling, filled, unfilled, counting_fill, table_fill_by, table_fill}
 use Rattle.theorems.specs.AlgebraLaws.{AlgebrasLawful}
-use Rattle.theorems.proofs.Listing.{none_some, some_same, get_or_some, every_at, every_append, every_mapped, every_with, at_lt, and_left, and_right}
+use Rattle.fixpoint.proofs.Pull.{every_append}
+use Rattle.theorems.proofs.Listing.{none_some, some_same, get_or_some, every_at, every_mapped, every_with, at_lt, and_left, and_right}
 use Rattle.theorems.proofs.TableFiles.{table_forth}
 use Rattle.theorems.proofs.Ranges.{truth_low}
 

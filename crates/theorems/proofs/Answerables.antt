@@ -18,8 +18,7 @@ use Rattle.definitions.specs.Settle.{Pass, Ran, wrote, refused, ran_on}
 use Rattle.definitions.specs.Rules.{fitted_in, applied_to, applied}
 use Rattle.definitions.specs.Boolean.{Variable, boolean_written, boolean_reading, solves, Expanded, made, refused as declined, shipped, expanded, expand_read, expand_on}
 use Rattle.definitions.specs.Calls.{Delivered, Loads, Answers, Applies, run_on, run_by, Expanding, Solved, found, unsolved, solve_variables, solve, Solving}
-use Rattle.definitions.specs.Past.{Past, call}
-use Rattle.theorems.specs.CallLaws.{CallsAnswer, CallsAnswerOnce, BuffersAnswer, RunIsApplied, CallsExtendHistories}
+use Rattle.theorems.specs.CallLaws.{CallsAnswer, CallsAnswerOnce, BuffersAnswer, RunIsApplied}
 use Rattle.theorems.proofs.PassRules.{passes_rule}
 use Rattle.theorems.proofs.Histories.{sound, solves_long}
 use Rattle.theorems.proofs.Settled.{settle_answers, settle_one}
@@ -228,6 +227,3 @@ buffers_answer =
       solve_answers = solve_answer;
       solve_once = solve_one;
     }
-
-pub calls_follow : CallsExtendHistories
-calls_follow e h k s es p = let q : Past (e ∷ es) k = call p s in (q, sound passes_rule (e ∷ es) k q)

@@ -37,6 +37,10 @@ stands_field f p (suc w) v h = ap₂ (λ x y. x * 2 ^ w + y) h.0 (stands_field f
 pub takes : (f : List ℕ) (p w v : ℕ) → v < 2 ^ w → Stands f p (bits w v) → take w f p ≡ next v (p + w)
 takes f p w v s h = rw (le-leb (p + w) (8 * length f) (stands_end f p w v h), take) (ap (λ n. next n (p + w)) (stands_field f p w v h ∙ mod-eq_of_lt s))
 
+pub stands_most : (f : List ℕ) (p : ℕ) (bs : List ℕ) → Stands f p bs → p + length bs ≤ 8 * length f
+stands_most f p [] h = omega arith
+stands_most f p (b ∷ bs) h = omega (arith, stands_most f (suc p) bs h.1)
+
 -- and back: a field that is read stands there
 pub stands_join : (f : List ℕ) (p : ℕ) (bs cs : List ℕ) → Stands f p bs → Stands f (p + length bs) cs → Stands f p (bs ++ cs)
 stands_join f p [] cs h k = subst (λ q. Stands f q cs) (add-zero p) k

@@ -1,7 +1,8 @@
 -- Facts of lists, options and tests.
-use Rattle.std.proofs.Common.{◌≡◌, ℕ, zero, suc, ◌+◌, ◌<◌, ◌≤◌, Bool, true, false, ◌&&◌, List, [], ◌∷◌, ◌++◌, map, length, get_or, Some, None, Option, refl, ap, ◌∙◌, subst, ap₂, le_refl, arith}
+use Rattle.std.proofs.Common.{◌≡◌, ℕ, zero, suc, ◌+◌, ◌<◌, ◌≤◌, Bool, true, false, ◌&&◌, eqb, List, [], ◌∷◌, ◌++◌, map, length, get_or, Some, None, Option, refl, ap, ◌∙◌, subst, ap₂, le_refl, arith}
 use mathlib.Core.Bool.{false≢true}
-use Rattle.definitions.specs.Lists.{at, bind, each, some, keep, from, map_from, strike}
+use Rattle.std.proofs.lemmas.Bool.{eqb-true, eq-eqb}
+use Rattle.definitions.specs.Lists.{at, bind, each, same, some, keep, from, map_from, strike}
 use Rattle.definitions.specs.Fits.{Every}
 
 pub none_some : {A : Type 0} {P : Type 0} (x : A) → ◌≡◌ {A = Option A} None (Some x) → P
@@ -77,10 +78,6 @@ pub every_unmapped : {A B : Type 0} (P : B → Type 0) (f : A → B) (xs : List 
 every_unmapped P f [] h = tt
 every_unmapped P f (x ∷ xs) h = (h.0, every_unmapped P f xs h.1)
 
-pub every_append : {A : Type 0} (P : A → Type 0) (xs ys : List A) → Every P xs → Every P ys → Every P (xs ++ ys)
-every_append P [] ys h k = k
-every_append P (x ∷ xs) ys h k = (h.0, every_append P xs ys h.1 k)
-
 pub every_left : {A : Type 0} (P : A → Type 0) (xs ys : List A) → Every P (xs ++ ys) → Every P xs
 every_left P [] ys h = tt
 every_left P (x ∷ xs) ys h = (h.0, every_left P xs ys h.1)
@@ -110,14 +107,25 @@ pub some_none : {A : Type 0} (p : A → Bool) (xs : List A) → ((x : A) → p x
 some_none p [] h = refl
 some_none p (x ∷ xs) h = ap (λ b. elim b [ true ↦ true | false ↦ some p xs ]) (h x) ∙ some_none p xs h
 
+-- the same numbers
+pub same_eq : (xs ys : List ℕ) → same xs ys ≡ true → xs ≡ ys
+same_eq [] [] h = refl
+same_eq [] (y ∷ ys) h = absurd (false≢true h)
+same_eq (x ∷ xs) [] h = absurd (false≢true h)
+same_eq (x ∷ xs) (y ∷ ys) h = ap₂ (λ u us. u ∷ us) (eqb-true x y (and_left (eqb x y) (same xs ys) h)) (same_eq xs ys (and_right (eqb x y) (same xs ys) h))
+
+pub same_refl : (xs : List ℕ) → same xs xs ≡ true
+same_refl [] = refl
+same_refl (x ∷ xs) = ap₂ (λ p q. p && q) (eq-eqb x x refl) (same_refl xs)
+
 -- lengths
 pub from_long : (k n : ℕ) → length (from k n) ≡ n
 from_long k zero = refl
 from_long k (suc n) = ap suc (from_long (suc k) n)
 
-pub keep_long : {A : Type 0} (q : A → Bool) (xs : List A) → length (keep q xs) ≤ length xs
-keep_long q [] = le_refl 0
-keep_long {A} q (x ∷ xs) = go (keep_long q xs) (q x)
+pub keep_short : {A : Type 0} (q : A → Bool) (xs : List A) → length (keep q xs) ≤ length xs
+keep_short q [] = le_refl 0
+keep_short {A} q (x ∷ xs) = go (keep_short q xs) (q x)
   where
     go : length (keep q xs) ≤ length xs → (b : Bool) → length {A = A} (elim b [ true ↦ x ∷ keep q xs | false ↦ keep q xs ]) ≤ suc (length xs)
     go h true = omega arith

@@ -12,10 +12,10 @@ use Rattle.definitions.specs.Reading.{Step, next, stop, Reader, Reading, got, ba
 use Rattle.definitions.specs.ReadSystem.{reading, read_system}
 use Rattle.definitions.specs.Written.{system_bits, written}
 use Rattle.definitions.specs.Fits.{Every, SystemFits}
-use Rattle.theorems.proofs.Fields.{stands_join, field_stands}
+use Rattle.theorems.proofs.Fields.{stands_most, stands_join, field_stands}
 use Rattle.theorems.proofs.Packs.{bits_of, bit_in, bits_long, bytes_bits, bytes_long, pad_long, pad, bits_zero, pad_none, number_below, every_drop}
 use Rattle.theorems.proofs.Whole.{system_bits_lem}
-use Rattle.theorems.proofs.Sounds.{sound_system, stands_most}
+use Rattle.theorems.proofs.Sounds.{sound_system}
 
 -- lists of one length with the same members
 same_list : (xs ys : List ℕ) → length xs ≡ length ys → ((k : ℕ) → k < length xs → get_or xs k 0 ≡ get_or ys k 0) → xs ≡ ys

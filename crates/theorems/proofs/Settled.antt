@@ -1,6 +1,5 @@
 -- Settling always has one answer, in a round that the weight limits.
-use Rattle.std.proofs.Common.{◌≡◌, ℕ, zero, suc, ◌+◌, ◌<◌, ◌≤◌, Bool, true, false, ◌&&◌, eqb, leb, ◌⊎◌, List, [], ◌∷◌, length, Ok, Err, Result, sym, refl, ap, ◌∙◌, subst, ap₂, inl, inr, arith, eq-eqb, eqb-true, leb-false, leb-true}
-use Rattle.std.proofs.lemmas.Bool.{and_parts}
+use Rattle.std.proofs.Common.{◌≡◌, ℕ, zero, suc, ◌+◌, ◌<◌, ◌≤◌, Bool, true, false, eqb, leb, ◌⊎◌, List, [], ◌∷◌, length, Ok, Err, Result, sym, refl, ap, ◌∙◌, subst, inl, inr, arith, eqb-true, leb-false, leb-true}
 use Rattle.definitions.specs.Lists.{same}
 use Rattle.definitions.specs.Alg.{Alg, Lawful}
 use Rattle.definitions.specs.Systems.{System}
@@ -19,6 +18,7 @@ use Rattle.faults.specs.declared.PassFault.TheVariants.{Reading as Unread}
 use Rattle.faults.specs.declared.SettleFault.{SettleFault}
 use Rattle.faults.specs.declared.Halt.{Halt}
 use Rattle.theorems.specs.SettleLaws.{told, Answered, SettlingEnds, OneSettledAnswer, SettleComputes}
+use Rattle.theorems.proofs.Listing.{same_eq, same_refl}
 use Rattle.theorems.proofs.Whole.{whole_back}
 use Rattle.theorems.proofs.Repack.{whole_forth}
 use Rattle.theorems.proofs.PassRules.{passes_rule}
@@ -147,22 +147,11 @@ settle_one a f g h (Err x) (Ok n) s t = absurd (not_halted a f h n x.halt t s.wh
 settle_one a f g h (Err x) (Err y) s t = (s.kept ∙ sym t.kept, ap (λ (z : Halt). Err (record { halt = z })) (halts_one a f x.halt y.halt s.why t.why))
 
 -- the function of rounds
-same_refl : (xs : List ℕ) → same xs xs ≡ true
-same_refl [] = refl
-same_refl (x ∷ xs) = ap₂ (λ p q. p && q) (eq-eqb x x refl) (same_refl xs)
-
-same_true : (xs ys : List ℕ) → same xs ys ≡ true → xs ≡ ys
-same_true [] [] e = refl
-same_true [] (y ∷ ys) e = let z : ◌≡◌ {A = ℕ} 0 1 = cc in absurd (omega arith)
-same_true (x ∷ xs) [] e = let z : ◌≡◌ {A = ℕ} 0 1 = cc in absurd (omega arith)
-same_true (x ∷ xs) (y ∷ ys) e =
-    let (p, q) = and_parts (eqb x y) (same xs ys) e in ap₂ (λ x xs. x ∷ xs) (eqb-true x y p) (same_true xs ys q)
-
 same_false : (xs ys : List ℕ) → (ys ≡ xs → ⊥) → same xs ys ≡ false
 same_false xs ys d = go (same xs ys) refl
   where
     go : (b : Bool) → same xs ys ≡ b → same xs ys ≡ false
-    go true e = absurd (d (sym (same_true xs ys e)))
+    go true e = absurd (d (sym (same_eq xs ys e)))
     go false e = e
 
 -- what a round's end makes of the rest

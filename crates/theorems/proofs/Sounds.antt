@@ -12,12 +12,8 @@ use Rattle.definitions.specs.Reading.{Step, next, stop, Reader, take, take_for, 
 use Rattle.definitions.specs.ReadSystem.{Scope, Sorted, Header, scope, sign_of, quantifier_of, read_sort, read_quantified, read_header, read_target, read_of, read_occurrence, read_clause, read_body, read_value_of, read_system, read_term}
 use Rattle.definitions.specs.Written.{term_bits, sign_bits, quantifier_bits, header_bits, occurrence_bits, clause_bits, body_bits, system_bits}
 use Rattle.definitions.specs.Fits.{Fits, Every, SortFits, HeaderFits, header_of, TermsFit, ValuesFit, OccurrenceFits, ClauseFits, BodyFits, SystemFits}
-use Rattle.theorems.proofs.Fields.{stands_join, took, given_inv, below_inv}
+use Rattle.theorems.proofs.Fields.{stands_most, stands_join, took, given_inv, below_inv}
 use Rattle.theorems.proofs.Forth.{sound}
-
-pub stands_most : (f : List ℕ) (p : ℕ) (bs : List ℕ) → Stands f p bs → p + length bs ≤ 8 * length f
-stands_most f p [] h = omega arith
-stands_most f p (b ∷ bs) h = omega (arith, stands_most f (suc p) bs h.1)
 
 -- what was read from p to q, and its bits
 pub record Came (f : List ℕ) (p q : ℕ) {A : Type 0} (R : A → List ℕ → Type 0) (x : A) : Type 0 where
@@ -30,7 +26,7 @@ pub record Sound (f : List ℕ) {A : Type 0} (r : Reader A) (R : A → List ℕ 
   pub run : (p : ℕ) → p ≤ 8 * length f → (x : A) (q : ℕ) → r f p ≡ next x q → Came f p q R x
 
 infixr 30 ◌⊕◌
-◌⊕◌ : {b c d e : List ℕ} → b ≡ c → d ≡ e → b ++ d ≡ c ++ e
+pub ◌⊕◌ : {b c d e : List ℕ} → b ≡ c → d ≡ e → b ++ d ≡ c ++ e
 p ⊕ q = ap₂ (λ u v. u ++ v) p q
 
 pub sign_same : (n : ℕ) → n < 2 → bits 1 n ≡ sign_bits (sign_of n)

@@ -10,7 +10,7 @@ use Rattle.definitions.specs.Constants.{Known, Knowledge, agreed, agreed_all, Br
 use Rattle.theorems.specs.KnowledgeLaws.{arities, Shaped}
 use Rattle.definitions.specs.Fits.{Every}
 use Rattle.theorems.proofs.Knows.{Under, same, unknown, Unders, Reached, not_yet, already, Belows, Met, All, trans_unders, from_unders}
-use Rattle.theorems.proofs.Listing.{every_append}
+use Rattle.fixpoint.proofs.Pull.{every_append}
 
 -- knowledge of the right shape
 pub data Shape : List ℕ → Knowledge → Type 0 where
