@@ -20,7 +20,7 @@ use bits::Cursor;
 use faults::{Reason, SolveFault};
 use system::header::Sign;
 
-// The truth that the variables of a block move to: they begin with the other.
+// The truth that the variables of a block move to: they begin with the other. One test says both cases of the definition.
 fn moves_to(sign: Sign) -> bool
     ensures { result ≡ moves_to sign }
 {
