@@ -237,14 +237,14 @@ counting_filled sizes e = go (sizes_good sizes) refl e
         (every_with (λ n. (leb 1 n && leb n 256) ≡ true) (λ n. (1 ≤ n) × (n ≤ 256)) sizes
         (each_every (λ n. leb 1 n && leb n 256) sizes (and_right (leb (length sizes) 15) (each (λ n. leb 1 n && leb n 256) sizes) t))
         (λ n h. (leb-true 1 n (and_left (leb 1 n) (leb n 256) h), leb-true n 256 (and_right (leb 1 n) (leb n 256) h))))
-    go false t e = let z : ◌≡◌ {A = ℕ} 0 1 = cc in absurd (omega arith)
+    go false t e = absurd cc
 
 table_filled : (f : List ℕ) → Bytes f → (t : Table) → table_fill f ≡ filled t → Lawful (table t)
 table_filled f small t e = go (table_reading f) refl e
   where
     go : (o : Reading Table) → table_reading f ≡ o → table_fill_by o ≡ filled t → Lawful (table t)
     go (got u) r e = let q : u ≡ t = cc in subst (λ (t : Table). Lawful (table t)) q (table_lawful u (table_forth f small u r).1)
-    go (bad r p) q e = let z : ◌≡◌ {A = ℕ} 0 1 = cc in absurd (omega arith)
+    go (bad r p) q e = absurd cc
 
 pub algebras_lawful : AlgebrasLawful
 algebras_lawful =

@@ -65,7 +65,7 @@ module _ (f : List ℕ) where
     sound_token zero = record {
       run = λ p l x q e.
           let (y, r, _, h) = follow_inv (take 3 f p) (λ _ _. stop TooDeep p) x q e in
-          let z : ◌≡◌ {A = ℕ} 0 1 = cc in absurd (omega arith);
+          absurd cc;
     }
     sound_token (suc d) = sound_here f _ (λ p. sound_then f (take 3) _ _ (sound_take f 3) (λ k bs r. sound_kind d p (sound_token d) k bs r.0))
 

@@ -51,7 +51,7 @@ pub expand_fits : ExpansionFits
 expand_fits a law s fits vs e = fits_by_count a law s fits 4096 vs _ (omega arith) refl e
 
 refused_made : {P : Type 0} (r : ExpandFault) (n : ℕ) (g : List ℕ) → ◌≡◌ {A = Expanded} (refused r) (made g n) → P
-refused_made r n g e = let z : ◌≡◌ {A = ℕ} 0 1 = cc in absurd (omega arith)
+refused_made r n g e = absurd cc
 
 -- the count and the bytes
 pub record Shipped (places room : ℕ) (vs : List Variable) (g : List ℕ) (n : ℕ) : Type 0 where
@@ -107,7 +107,7 @@ expand_ships a law s fits places room g n e = go (expanded a s) refl e
 
 -- declined
 made_refused : {P : Type 0} (r : ExpandFault) (n : ℕ) (g : List ℕ) → ◌≡◌ {A = Expanded} (made g n) (refused r) → P
-made_refused r n g e = let z : ◌≡◌ {A = ℕ} 0 1 = cc in absurd (omega arith)
+made_refused r n g e = absurd cc
 
 same_reason : (a : Alg) (s : System) (places room : ℕ) (r r' : ExpandFault) → ◌≡◌ {A = Expanded} (refused r) (refused r') → Declines a s places room r → Declines a s places room r'
 same_reason a s places room r r' e d = let u : r ≡ r' = cc in subst (Declines a s places room) u d

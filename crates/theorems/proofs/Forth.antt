@@ -29,12 +29,12 @@ two {A} r f p ts q = go (r f p) refl
         let eq : p'' ≡ q = cc in
         let ets : ts ≡ t ∷ u ∷ [] = cc in
         record { t = t; u = u; p' = p'; first = e; second = e' ∙ ap (next u) eq; both = ets }
-    rest t p' e (stop w n) e' h = let z : ◌≡◌ {A = ℕ} 0 1 = cc in absurd (omega arith)
+    rest t p' e (stop w n) e' h = absurd cc
 
     go : (m : Step A) → r f p ≡ m → follow m (λ t n. follow (follow (r f n) (λ y n'. next (y ∷ []) n')) (λ ys n'. next (t ∷ ys) n')) ≡ next ts q →
         Two r f p ts q
     go (next t p') e h = rest t p' e (r f p') refl h
-    go (stop w n) e h = let z : ◌≡◌ {A = ℕ} 0 1 = cc in absurd (omega arith)
+    go (stop w n) e h = absurd cc
 
 pub record Got (a : Alg) (c : Scope) (f : List ℕ) (d : ℕ) (need : Option ℕ) (p : ℕ) (x : Sorted) (q : ℕ) : Type 0 where
   pub fits : Fits a c d x.the_sort x.the_term
@@ -289,8 +289,7 @@ pub sound : (a : Alg) (c : Scope) (f : List ℕ) → ((o n : ℕ) → a.arity o 
     (d : ℕ) (need : Option ℕ) (p : ℕ) (x : Sorted) (q : ℕ) → read_term a c d need f p ≡ next x q → Got a c f d need p x q
 sound a c f there zero need p x q e =
     let (k, p₂, e₂, k₂) = follow_inv (take 3 f p) _ x q e in
-    let z : ◌≡◌ {A = ℕ} 0 1 = cc in
-    absurd (omega arith)
+    absurd cc
 sound a c f there (suc d) need p x q e =
     let (k, p₂, e₂, k₂) = follow_inv (take 3 f p) _ x q e in
     let t = took f p 3 k p₂ e₂ in

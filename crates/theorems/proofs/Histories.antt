@@ -26,7 +26,7 @@ use Rattle.theorems.proofs.Expanding.{expand_ships}
 use Rattle.theorems.proofs.Listing.{from_long}
 
 clash : (x : PassFault) (g : List ℕ) → refused x ≡ wrote g → ⊥
-clash x g e = let z : ◌≡◌ {A = ℕ} 0 1 = cc in omega arith
+clash x g e = cc
 
 -- what an obeyed pass makes of a system that fits
 pub record Next (a : Alg) (s : System) (g : List ℕ) : Type 0 where
@@ -107,7 +107,7 @@ does_round (m ∷ ms) rs a f g e = go (λ k. does_round ms rs.1 a k g) (run m.1 
   where
     go : ((k : List ℕ) → round_by a ms k ≡ ended g → Does a k g) → (r : Ran) → run m.1 a f ≡ r → elim r as (λ _. Round) [ wrote k ↦ round_by a ms k | refused e ↦ failed e m.0 ] ≡ ended g → Does a f g
     go i (wrote k) p e = does_both a f k g (does_run m.1 a f k rs.0 p) (i k e)
-    go i (refused x) p e = let z : ◌≡◌ {A = ℕ} 0 1 = cc in absurd (omega arith)
+    go i (refused x) p e = absurd cc
 
 -- what an obeyed call that changes the file does
 pub record Moves (a : Alg) (f g : List ℕ) : Type 0 where
@@ -117,12 +117,12 @@ pub record Moves (a : Alg) (f g : List ℕ) : Type 0 where
 round_empty : (a : Alg) (f g : List ℕ) → round_by a passes f ≡ ended g → f ≡ [] → ⊥
 round_empty a f g e z =
     let q : failed (Unread (record { reason = BadLength; place = 0 })) 0x43 ≡ ended g = sym (ap (round_by a passes) z) ∙ e in
-    let z : ◌≡◌ {A = ℕ} 0 1 = cc in omega arith
+    cc
 
 moves_run : (m : Pass) (a : Alg) (f g : List ℕ) → Rules m → run_on m a f ≡ wrote g → Moves a f g
 moves_run m a [] g r e = absurd (clash (Declined BenchEmpty) g e)
 moves_run m a (x ∷ xs) g r e = record {
-  not_empty = λ p. let z : ◌≡◌ {A = ℕ} 0 1 = cc in omega arith;
+  not_empty = λ p. cc;
   does = does_run m a (x ∷ xs) g r e;
 }
 
@@ -130,8 +130,8 @@ short_file : {A : Type 0} (n : ℕ) (r : Reader A) (f : List ℕ) (x : A) → fi
 short_file {A} n r f x = go (eqb (length f) 0) (ltb n (length f)) refl
   where
     go : (b c : Bool) → ltb n (length f) ≡ c → elim (b || c) as (λ _. Reading A) [ true ↦ bad BadLength 0 | false ↦ EndingOf (complete r f 0) ] ≡ got x → length f ≤ n
-    go true c t e = let z : ◌≡◌ {A = ℕ} 0 1 = cc in absurd (omega arith)
-    go false true t e = let z : ◌≡◌ {A = ℕ} 0 1 = cc in absurd (omega arith)
+    go true c t e = absurd cc
+    go false true t e = absurd cc
     go false false t e = ltb-false n (length f) t
 
 -- a result in front of a buffer
@@ -143,7 +143,7 @@ found_same : {xs ys : List ℕ} → ◌≡◌ {A = Solved} (found xs) (found ys)
 found_same e = cc
 
 at_front : (xs ys : List ℕ) (b : ℕ) → at xs 0 ≡ Some b → at (xs ++ ys) 0 ≡ Some b
-at_front [] ys b e = let z : ◌≡◌ {A = ℕ} 0 1 = cc in absurd (omega arith)
+at_front [] ys b e = absurd cc
 at_front (x ∷ xs) ys b e = e
 
 pub solves_long : (vs : List Variable) → length (solves vs) ≡ length vs
@@ -164,7 +164,7 @@ first_byte g b vs e f = record { byte = byte; variables = length vs; obeyed = ob
             let q : solves vs ≡ s.bytes = found_same (sym (by (length before) true t) ∙ s.finds) in
             ap (λ (z : List ℕ). at z 0) s.put.front ∙ at_front s.bytes (drop (length s.bytes) before) b (ap (λ (z : List ℕ). at z 0) (sym q) ∙ f)
         go false t = let w : unsolved (record { reason = TooFewTruths; place = 0 }) ≡ found s.bytes = sym (by (length before) false t) ∙ s.finds in
-            let z : ◌≡◌ {A = ℕ} 0 1 = cc in absurd (omega arith)
+            absurd cc
 
     obeyed : (before : List ℕ) → length vs ≤ length before → (after : List ℕ) × Solving g before after (Ok (length vs))
     obeyed before l = (
@@ -257,7 +257,7 @@ loaded a f u es h k small t = record {
 
 -- what was expanded is what is held
 expand_from : (a : Alg) (places room : ℕ) (h g : List ℕ) (n : ℕ) (s : System) → expand_on a places room h ≡ made g n → reading a h ≡ got s → expand_system a places room s ≡ made g n
-expand_from a places room [] g n s e p = let z : ◌≡◌ {A = ℕ} 0 1 = cc in absurd (omega arith)
+expand_from a places room [] g n s e p = absurd cc
 expand_from a places room (x ∷ xs) g n s e p = sym (ap (expand_read a places room) p) ∙ e
 
 expanded : (a : Alg) (places : ℕ) (before after : List ℕ) (x : ℕ × ℕ) (es : List Event) (h k : List ℕ) → Makes (expand_on a places (length before) h) before after x.0 x.1 → k ≡ h → Good es h →
@@ -299,7 +299,7 @@ module _ (rules : PassesKeepRules) where
   moves_letter : (l : ℕ) (a : Alg) (f g : List ℕ) → run_by l a f ≡ wrote g → Moves a f g
   moves_letter l a [] g e = absurd (clash (Declined BenchEmpty) g e)
   moves_letter l a (x ∷ xs) g e = record {
-    not_empty = λ p. let z : ◌≡◌ {A = ℕ} 0 1 = cc in omega arith;
+    not_empty = λ p. cc;
     does = does_lettered passes all_rule l a (x ∷ xs) g e;
   }
 

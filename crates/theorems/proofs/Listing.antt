@@ -6,7 +6,7 @@ use Rattle.definitions.specs.Lists.{at, bind, each, same, some, keep, from, map_
 use Rattle.definitions.specs.Fits.{Every}
 
 pub none_some : {A : Type 0} {P : Type 0} (x : A) → ◌≡◌ {A = Option A} None (Some x) → P
-none_some x e = let z : ◌≡◌ {A = ℕ} 0 1 = cc in absurd (omega arith)
+none_some x e = absurd cc
 
 pub some_same : {A : Type 0} (x y : A) → ◌≡◌ {A = Option A} (Some x) (Some y) → x ≡ y
 some_same x y e = cc

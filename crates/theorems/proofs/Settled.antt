@@ -13,7 +13,6 @@ use Rattle.definitions.specs.Settle.{Pass, Ran, wrote, refused, ran_on, run, pas
 use Rattle.definitions.specs.Calls.{Bytes, Settles, equal, again, Stops, here, later, empty_halt, Halts, Settling}
 use Rattle.faults.specs.declared.Reason.{Reason}
 use Rattle.faults.specs.declared.Reason.TheVariants.{BadLength}
-use Rattle.faults.specs.declared.PassFault.{PassFault}
 use Rattle.faults.specs.declared.PassFault.TheVariants.{Reading as Unread}
 use Rattle.faults.specs.declared.SettleFault.{SettleFault}
 use Rattle.faults.specs.declared.Halt.{Halt}
@@ -49,7 +48,7 @@ module _ (a : Alg) (law : Lawful a) where
           let w = fitted_short (written (m.1 a s)) k (sym (ap (ran_on m.1 a) i.reads) ∙ p) in
           let fit = rs.0.fits a law s i.fits in
           h k e (record { reads = ap (reading a) (sym w.1) ∙ whole_back a (m.1 a s) fit w.0; fits = fit; file = w.1 })
-      go h (refused x) p e = let z : ◌≡◌ {A = ℕ} 0 1 = cc in absurd (omega arith)
+      go h (refused x) p e = absurd cc
 
   abbrev Done : ℕ → List ℕ → ℕ → Type 0
   Done k f m = ((n : ℕ) × (g : List ℕ) × Settles a k f n g × (n ≤ m)) ⊎ ((x : Halt) × Stops a k f x × (x.round ≤ m))
@@ -105,9 +104,6 @@ settle_answers a law (x ∷ xs) b = go (reading a (x ∷ xs)) refl
 ended_same : {f g : List ℕ} → ended f ≡ ended g → f ≡ g
 ended_same e = cc
 
-ended_failed : {f : List ℕ} {x : PassFault} {l : ℕ} → ended f ≡ failed x l → ⊥
-ended_failed e = let z : ◌≡◌ {A = ℕ} 0 1 = cc in omega arith
-
 settles_one : (a : Alg) {k m n : ℕ} {f g h : List ℕ} → Settles a k f m g → Settles a k f n h → (g ≡ h) × (m ≡ n)
 settles_one a (equal e) (equal d) = (refl, refl)
 settles_one a (equal e) (again g d q t) = absurd (q (ended_same (sym d ∙ e)))
@@ -119,14 +115,14 @@ stops_one a {k} (here x l e) (here x' l' d) = failed_same (sym e ∙ d)
   where
     failed_same : failed x l ≡ failed x' l' → ◌≡◌ {A = Halt} (record { fault = x; letter = l; round = k }) (record { fault = x'; letter = l'; round = k })
     failed_same e = cc
-stops_one a (here x l e) (later g d q t) = absurd (ended_failed (sym d ∙ e))
-stops_one a (later g e p s) (here x l d) = absurd (ended_failed (sym e ∙ d))
+stops_one a (here x l e) (later g d q t) = absurd cc
+stops_one a (later g e p s) (here x l d) = absurd cc
 stops_one a {k} {x = x} (later g e p s) (later i d q t) = stops_one a (subst (λ (f : List ℕ). Stops a (suc k) f x) (ended_same (sym e ∙ d)) s) t
 
 not_both : (a : Alg) {k n : ℕ} {f g : List ℕ} {x : Halt} → Settles a k f n g → Stops a k f x → ⊥
-not_both a (equal e) (here x l d) = ended_failed (sym e ∙ d)
+not_both a (equal e) (here x l d) = cc
 not_both a (equal e) (later g d q t) = q (ended_same (sym d ∙ e))
-not_both a (again g e p s) (here x l d) = ended_failed (sym e ∙ d)
+not_both a (again g e p s) (here x l d) = cc
 not_both a {k} {n} {g = h} (again g e p s) (later i d q t) = not_both a (subst (λ (f : List ℕ). Settles a (suc k) f n h) (ended_same (sym e ∙ d)) s) t
 
 not_empty : (a : Alg) {k n : ℕ} {g : List ℕ} → Settles a k [] n g → ⊥

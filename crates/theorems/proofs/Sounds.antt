@@ -45,7 +45,7 @@ module _ (f : List ℕ) where
   sound_then {A} {B} m k {R} T s t = record { run = λ p l y q e. go p y q l (m f p) refl e }
     where
       go : (p : ℕ) (y : B) (q : ℕ) → p ≤ 8 * length f → (z : Step A) → m f p ≡ z → follow z (λ x n. k x f n) ≡ next y q → Came f p q T y
-      go p y q l (stop r n) e h = let z : ◌≡◌ {A = ℕ} 0 1 = cc in absurd (omega arith)
+      go p y q l (stop r n) e h = absurd cc
       go p y q l (next x n) e h =
           let c = s.run p l x n e in
           let d = (t x c.its c.fact).run n (subst (λ m. m ≤ 8 * length f) (sym c.behind) (stands_most f p c.its c.stands)) y q h in
@@ -61,7 +61,7 @@ module _ (f : List ℕ) where
   sound_last {A} {B} m g {R} T s t = record { run = λ p l y q e. go p y q l (m f p) refl e }
     where
       go : (p : ℕ) (y : B) (q : ℕ) → p ≤ 8 * length f → (z : Step A) → m f p ≡ z → follow z (λ x n. next (g x) n) ≡ next y q → Came f p q T y
-      go p y q l (stop r n) e h = let z : ◌≡◌ {A = ℕ} 0 1 = cc in absurd (omega arith)
+      go p y q l (stop r n) e h = absurd cc
       go p y q l (next x n) e h =
           let c = s.run p l x n e in
           let ey : g x ≡ y = cc in
@@ -80,10 +80,10 @@ module _ (f : List ℕ) where
 
   pub sound_must : {B : Type 0} (k : Reader B) (t : Bool) (r : Reason) (q : ℕ) {T : B → List ℕ → Type 0} → (t ≡ true → Sound f k T) → Sound f (must t r q >> k) T
   sound_must k true r q s = record { run = (s refl).run }
-  sound_must k false r q s = record { run = λ p l x q e. let z : ◌≡◌ {A = ℕ} 0 1 = cc in absurd (omega arith) }
+  sound_must k false r q s = record { run = λ p l x q e. absurd cc }
 
   pub sound_fail : {A : Type 0} (r : Reason) (q : ℕ) {T : A → List ℕ → Type 0} → Sound f (fail r q) T
-  sound_fail r q = record { run = λ p l x n e. let z : ◌≡◌ {A = ℕ} 0 1 = cc in absurd (omega arith) }
+  sound_fail r q = record { run = λ p l x n e. absurd cc }
 
   pub sound_here : {A : Type 0} (k : ℕ → Reader A) {T : A → List ℕ → Type 0} → ((p : ℕ) → Sound f (k p) T) → Sound f (here >>= k) T
   sound_here k h = record { run = λ p l x q e. (h p).run p l x q e }
@@ -104,7 +104,7 @@ module _ (f : List ℕ) where
   sound_for {A} w what r = record { run = λ p l y q e. go p y q l (take w f p) refl e }
     where
       go : (p : ℕ) (y : A) (q : ℕ) → p ≤ 8 * length f → (z : Step ℕ) → take w f p ≡ z → follow z (λ v n. given (what v) r p f n) ≡ next y q → Came f p q (For w what) y
-      go p y q l (stop t n) e h = let z : ◌≡◌ {A = ℕ} 0 1 = cc in absurd (omega arith)
+      go p y q l (stop t n) e h = absurd cc
       go p y q l (next v n) e h =
           let g = given_inv (what v) r p f n y q h in
           let c = (sound_take w).run p l v n e in
@@ -149,7 +149,7 @@ module _ (f : List ℕ) where
 
   module _ (a : Alg) (law : Lawful a) where
     size_inv : {A B : Type 0} (o : Option A) (g : A → Option B) (y : B) → bind o g ≡ Some y → (z : A) × (o ≡ Some z) × (g z ≡ Some y)
-    size_inv None g y e = let z : ◌≡◌ {A = ℕ} 0 1 = cc in absurd (omega arith)
+    size_inv None g y e = absurd cc
     size_inv (Some z) g y e = (z, refl, e)
 
     same_some : {A : Type 0} (x y : A) → Some x ≡ Some y → x ≡ y
