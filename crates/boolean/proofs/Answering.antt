@@ -29,8 +29,8 @@ pub got_small : (f : List ℕ) (vs : List Variable) → boolean_reading f ≡ go
 got_small f vs e = go (ended (complete read_boolean f 0)) (eqb (length f) 0) (ltb 65535 (length f)) refl e
   where
     go : (z : Reading (List Variable)) (a b : Bool) → ltb 65535 (length f) ≡ b → elim (a || b) [ true ↦ bad BadLength 0 | false ↦ z ] ≡ got vs → length f ≤ 65535
-    go z true b p q = let n : ◌≡◌ {A = ℕ} 0 1 = cc in absurd (omega arith)
-    go z false true p q = let n : ◌≡◌ {A = ℕ} 0 1 = cc in absurd (omega arith)
+    go z true b p q = absurd cc
+    go z false true p q = absurd cc
     go z false false p q = ltb-false 65535 (length f) p
 
 pub variables_of_lem : (f : List ℕ) (vs : List Variable) → boolean_reading f ≡ got vs → variables_of f ≡ vs

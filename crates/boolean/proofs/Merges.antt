@@ -220,7 +220,7 @@ outermost h ss (Some a) b e k =
     (omega (arith, r.0), r.1 ∙ h a b k)
   where
     found : (ss : List KeptSign) (i : ℕ) (s : KeptSign) → slice_get ss i ≡ Some s → (i < length ss) × (get_or ss i Least ≡ s)
-    found [] i s e = let z : ◌≡◌ {A = ℕ} 0 1 = cc in absurd (omega arith)
+    found [] i s e = absurd cc
     found (x ∷ ss) zero s e = let j : x ≡ s = cc in (omega arith, j)
     found (x ∷ ss) (suc i) s e = let r = found ss i s e in (omega (arith, r.0), r.1)
 

@@ -175,7 +175,7 @@ module _ (s : Solver) where
       body_told b u z = ∥∥₁_elim s.described (Bool-set _ _) (λ d. let j : next b u ≡ next (body s h v) (body_is d).0 = z ∙ (body_is d).1 in cc)
 
       pub body_reads : (r : Reason) (u : ℕ) → stop r u ≡ read_said (length es) 8 h s.file.now e.body → ⊥
-      body_reads r u z = ∥∥₁_elim s.described (λ x y. absurd x) (λ d. let j : stop r u ≡ next (body s h v) (body_is d).0 = z ∙ (body_is d).1 in let z : ◌≡◌ {A = ℕ} 0 1 = cc in omega arith)
+      body_reads r u z = ∥∥₁_elim s.described (λ x y. absurd x) (λ d. let j : stop r u ≡ next (body s h v) (body_is d).0 = z ∙ (body_is d).1 in cc)
 
 pub few_entries : (x : Variables) → length (listed x.entries) ≤ 4096
 few_entries x = listed_within x.entries
