@@ -20,7 +20,7 @@ use Rattle.definitions.specs.Boolean.{Variable, boolean_written, boolean_reading
 use Rattle.definitions.specs.Calls.{Delivered, Loads, Answers, Applies, run_on, run_by, Expanding, Solved, found, unsolved, solve_variables, solve, Solving}
 use Rattle.theorems.specs.CallLaws.{CallsAnswer, CallsAnswerOnce, BuffersAnswer, RunIsApplied}
 use Rattle.theorems.proofs.PassRules.{passes_rule}
-use Rattle.theorems.proofs.Histories.{sound, solves_long}
+use Rattle.theorems.proofs.Histories.{sound, found_same, solves_long}
 use Rattle.theorems.proofs.Settled.{settle_answers, settle_one}
 
 load_answer : (a : Alg) (f h : List ℕ) (o : Reading System) → reading a f ≡ o → (r : Result (Unit {0}) ReadFault) × (k : List ℕ) × Loads a f h k r
@@ -161,9 +161,6 @@ calls_one h =
     }
 
 -- solving
-found_same : {f g : List ℕ} → found f ≡ found g → f ≡ g
-found_same e = cc
-
 unsolved_same : {x y : SolveFault} → unsolved x ≡ unsolved y → x ≡ y
 unsolved_same e = cc
 

@@ -12,8 +12,7 @@ use Rattle.definitions.specs.Fits.{Every, SystemFits}
 use Rattle.definitions.specs.Truth.{verdict}
 use Rattle.definitions.specs.Settle.{Pass, Ran, wrote, refused, fitted, ran_on, run, passes, Round, ended, failed, round_by}
 use Rattle.definitions.specs.Boolean.{made, expand_read, expand_system, Variable, boolean_reading, solves, expand_on}
-use Rattle.faults.specs.declared.Reason.TheVariants.{BenchEmpty, BadLength, NoSuchName, ResultTooLong, TooFewTruths}
-use Rattle.faults.specs.declared.PassFault.{PassFault}
+use Rattle.faults.specs.declared.Reason.TheVariants.{BadLength, ResultTooLong, TooFewTruths}
 use Rattle.faults.specs.declared.PassFault.TheVariants.{Reading as Unread, Declined}
 use Rattle.definitions.specs.Rules.{Rules}
 use Rattle.definitions.specs.Calls.{Bytes, Taken, run_on, lettered, run_by, Settles, equal, again, Makes, Solved, found, unsolved, solve_variables, solve, Solving}
@@ -24,9 +23,6 @@ use Rattle.theorems.proofs.Whole.{whole_back, system_bits_lem}
 use Rattle.theorems.proofs.Repack.{whole_forth, small_bytes}
 use Rattle.theorems.proofs.Expanding.{expand_ships}
 use Rattle.theorems.proofs.Listing.{from_long}
-
-clash : (x : PassFault) (g : List ℕ) → refused x ≡ wrote g → ⊥
-clash x g e = cc
 
 -- what an obeyed pass makes of a system that fits
 pub record Next (a : Alg) (s : System) (g : List ℕ) : Type 0 where
@@ -46,18 +42,18 @@ fitted_short f g e = go (leb (length f) 8192) refl e
   where
     go : (b : Bool) → leb (length f) 8192 ≡ b → elim b as (λ _. Ran) [ true ↦ wrote f | false ↦ refused (Declined ResultTooLong) ] ≡ wrote g → (length f ≤ 8192) × (f ≡ g)
     go true t e = (leb-true (length f) 8192 t, cc)
-    go false t e = absurd (clash (Declined ResultTooLong) g e)
+    go false t e = absurd cc
 
 ran_short : (m : Pass) (a : Alg) (r : Reading System) (g : List ℕ) → ran_on m a r ≡ wrote g → length g ≤ 8192
 ran_short m a (got s) g e = let w = fitted_short (written (m a s)) g e in subst (λ (g : List ℕ). length g ≤ 8192) w.1 w.0
-ran_short m a (bad r p) g e = absurd (clash (Unread (record { reason = r; place = p })) g e)
+ran_short m a (bad r p) g e = absurd cc
 
 pub written_bytes : (s : System) → Bytes (written s)
 written_bytes s = small_bytes ((length (system_bits s) + 7) / 8) (system_bits s) (system_bits_lem s)
 
 ran_bytes : (m : Pass) (a : Alg) (r : Reading System) (g : List ℕ) → ran_on m a r ≡ wrote g → Bytes g
 ran_bytes m a (got s) g e = subst Bytes (fitted_short (written (m a s)) g e).1 (written_bytes (m a s))
-ran_bytes m a (bad r p) g e = absurd (clash (Unread (record { reason = r; place = p })) g e)
+ran_bytes m a (bad r p) g e = absurd cc
 
 does_run : (m : Pass) (a : Alg) (f g : List ℕ) → Rules m → run m a f ≡ wrote g → Does a f g
 does_run m a f g r e = record {
@@ -94,7 +90,7 @@ abbrev pub AllRule : List (ℕ × Pass) → Type 0
 AllRule ms = Every (λ (m : ℕ × Pass). Rules m.1) ms
 
 does_lettered : (ms : List (ℕ × Pass)) → AllRule ms → (l : ℕ) (a : Alg) (f g : List ℕ) → lettered ms l a f ≡ wrote g → Does a f g
-does_lettered [] rs l a f g e = absurd (clash (Declined NoSuchName) g e)
+does_lettered [] rs l a f g e = absurd cc
 does_lettered (m ∷ ms) rs l a f g e = go (does_lettered ms rs.1 l a f g) (eqb l m.0) e
   where
     go : (lettered ms l a f ≡ wrote g → Does a f g) → (b : Bool) → elim b as (λ _. Ran) [ true ↦ run m.1 a f | false ↦ lettered ms l a f ] ≡ wrote g → Does a f g
@@ -120,7 +116,7 @@ round_empty a f g e z =
     cc
 
 moves_run : (m : Pass) (a : Alg) (f g : List ℕ) → Rules m → run_on m a f ≡ wrote g → Moves a f g
-moves_run m a [] g r e = absurd (clash (Declined BenchEmpty) g e)
+moves_run m a [] g r e = absurd cc
 moves_run m a (x ∷ xs) g r e = record {
   not_empty = λ p. cc;
   does = does_run m a (x ∷ xs) g r e;
@@ -139,7 +135,7 @@ pub take_front : (xs ys : List ℕ) → take (length xs) (xs ++ ys) ≡ xs
 take_front [] ys = refl
 take_front (x ∷ xs) ys = ap (λ z. x ∷ z) (take_front xs ys)
 
-found_same : {xs ys : List ℕ} → ◌≡◌ {A = Solved} (found xs) (found ys) → xs ≡ ys
+pub found_same : {xs ys : List ℕ} → ◌≡◌ {A = Solved} (found xs) (found ys) → xs ≡ ys
 found_same e = cc
 
 at_front : (xs ys : List ℕ) (b : ℕ) → at xs 0 ≡ Some b → at (xs ++ ys) 0 ≡ Some b
@@ -297,7 +293,7 @@ module _ (rules : PassesKeepRules) where
   all_rule = (rules.C, (rules.F, (rules.R, (rules.U, tt))))
 
   moves_letter : (l : ℕ) (a : Alg) (f g : List ℕ) → run_by l a f ≡ wrote g → Moves a f g
-  moves_letter l a [] g e = absurd (clash (Declined BenchEmpty) g e)
+  moves_letter l a [] g e = absurd cc
   moves_letter l a (x ∷ xs) g e = record {
     not_empty = λ p. cc;
     does = does_lettered passes all_rule l a (x ∷ xs) g e;
