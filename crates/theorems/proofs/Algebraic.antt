@@ -14,23 +14,14 @@ use Rattle.definitions.specs.Tables.{TableOp, Table, place_of, tabled, table, ta
 use Rattle.definitions.specs.Calls.{Bytes, Filling, filled, unfilled, counting_fill, table_fill_by, table_fill}
 use Rattle.theorems.specs.AlgebraLaws.{AlgebrasLawful}
 use Rattle.fixpoint.proofs.Pull.{every_append}
-use Rattle.theorems.proofs.Listing.{none_some, some_same, get_or_some, every_at, every_mapped, every_with, at_lt, and_left, and_right}
+use Rattle.theorems.proofs.Listing.{bind_inv, at_some, none_some, some_same, get_or_some, every_at, every_mapped, every_with, at_lt, and_left, and_right}
 use Rattle.theorems.proofs.TableFiles.{table_forth}
 use Rattle.theorems.proofs.Ranges.{truth_low}
-
-at_some : {A : Type 0} (l : List A) (k : ℕ) → k < length l → (x : A) × (at l k ≡ Some x)
-at_some [] k h = absurd (omega arith)
-at_some (x ∷ l) zero h = (x, refl)
-at_some (x ∷ l) (suc k) h = at_some l k (omega arith)
 
 at_over : {A : Type 0} (l : List A) (k : ℕ) → length l ≤ k → at l k ≡ None
 at_over [] k h = refl
 at_over (x ∷ l) zero h = absurd (omega arith)
 at_over (x ∷ l) (suc k) h = at_over l k (omega arith)
-
-bind_inv : {A B : Type 0} (o : Option A) (g : A → Option B) (y : B) → bind o g ≡ Some y → (x : A) × (o ≡ Some x) × (g x ≡ Some y)
-bind_inv None g y e = none_some y e
-bind_inv (Some x) g y e = (x, refl, e)
 
 -- an operation with sorts that are there and values within the result sort
 pub record OpRanges (sizes : List ℕ) (q : Op) : Type 0 where

@@ -56,12 +56,12 @@ applied_in : (m : Pass) (a : Alg) (room : ℕ) (o : Reading System) (g : List �
 applied_in m a room (got s) g e = fitted_in_lem room (written (m a s)) g e
 applied_in m a room (bad r p) g e = absurd cc
 
+made_file : {g h : List ℕ} {m n : ℕ} → made g m ≡ made h n → g ≡ h
+made_file e = cc
+
 shipped_in : (places room : ℕ) (vs : List Variable) (g : List ℕ) (n : ℕ) → shipped places room vs ≡ made g n → length g ≤ room
 shipped_in places room vs g n e = go (leb (length vs) places) (leb (length (boolean_written vs)) room && leb (length (boolean_written vs)) 65535) refl e
   where
-    made_file : {g h : List ℕ} {m n : ℕ} → made g m ≡ made h n → g ≡ h
-    made_file e = cc
-
     go : (b c : Bool) → (leb (length (boolean_written vs)) room && leb (length (boolean_written vs)) 65535) ≡ c →
         elim b as (λ _. Expanded) [
           | true ↦ elim c as (λ _. Expanded) [ true ↦ made (boolean_written vs) (length vs) | false ↦ declined (Refused BooleanTooLong) ]
@@ -137,9 +137,6 @@ expand_one o before after after' (Ok n) (Ok m) s t =
     let x = delivered_one s.file t.file before after after' n.0 m.0 (made_file y) s.put t.put in
     (ap₂ (λ (i j : ℕ). Ok (i, j)) x.0 (made_count y), x.1)
   where
-    made_file : {g h : List ℕ} {m n : ℕ} → made g m ≡ made h n → g ≡ h
-    made_file e = cc
-
     made_count : {g h : List ℕ} {m n : ℕ} → made g m ≡ made h n → m ≡ n
     made_count e = cc
 expand_one o before after after' (Ok n) (Err d) s t = absurd cc

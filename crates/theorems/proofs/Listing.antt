@@ -11,6 +11,10 @@ none_some x e = absurd cc
 pub some_same : {A : Type 0} (x y : A) → ◌≡◌ {A = Option A} (Some x) (Some y) → x ≡ y
 some_same x y e = cc
 
+pub bind_inv : {A B : Type 0} (o : Option A) (g : A → Option B) (y : B) → bind o g ≡ Some y → (x : A) × (o ≡ Some x) × (g x ≡ Some y)
+bind_inv None g y e = none_some y e
+bind_inv (Some x) g y e = (x, refl, e)
+
 pub and_left : (p q : Bool) → (p && q) ≡ true → p ≡ true
 and_left true q h = refl
 and_left false q h = h
@@ -24,6 +28,11 @@ pub at_lt : {A : Type 0} (xs : List A) (n : ℕ) (x : A) → at xs n ≡ Some x 
 at_lt [] n x e = none_some x e
 at_lt (y ∷ xs) zero x e = omega arith
 at_lt (y ∷ xs) (suc n) x e = omega (arith, at_lt xs n x e)
+
+pub at_some : {A : Type 0} (xs : List A) (n : ℕ) → n < length xs → (x : A) × (at xs n ≡ Some x)
+at_some [] n h = absurd (omega arith)
+at_some (x ∷ xs) zero h = (x, refl)
+at_some (x ∷ xs) (suc n) h = at_some xs n (omega arith)
 
 pub get_or_some : {A : Type 0} (d : A) (xs : List A) (n : ℕ) (x : A) → at xs n ≡ Some x → get_or xs n d ≡ x
 get_or_some d [] n x e = none_some x e
@@ -102,10 +111,6 @@ each_map p g (x ∷ xs) = ap (λ z. elim (p (g x)) [ true ↦ z | false ↦ fals
 pub some_map : {A B : Type 0} (p : B → Bool) (g : A → B) (xs : List A) → some p (map g xs) ≡ some (λ x. p (g x)) xs
 some_map p g [] = refl
 some_map p g (x ∷ xs) = ap (λ z. elim (p (g x)) [ true ↦ true | false ↦ z ]) (some_map p g xs)
-
-pub some_none : {A : Type 0} (p : A → Bool) (xs : List A) → ((x : A) → p x ≡ false) → some p xs ≡ false
-some_none p [] h = refl
-some_none p (x ∷ xs) h = ap (λ b. elim b [ true ↦ true | false ↦ some p xs ]) (h x) ∙ some_none p xs h
 
 -- the same numbers
 pub same_eq : (xs ys : List ℕ) → same xs ys ≡ true → xs ≡ ys
