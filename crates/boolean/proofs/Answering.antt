@@ -2,12 +2,11 @@
 use Rattle.std.proofs.Common.{◌≡◌, ℕ, zero, suc, ◌+◌, ◌-◌, ◌<◌, ◌≤◌, Bool, true, false, ◌||◌, eqb, ltb, List, [], ◌∷◌, ◌++◌, map, length, get_or, take, drop, set, replicate, Some, None, Option, sym, refl, ap, ◌∙◌, add-one, arith, ltb-false, eqb-true, le-leb}
 use mathlib.Core.Path.{fun_ext}
 use mathlib.Core.Bool.{false≢true}
-use lib.ListN.{length-map}
 use Rattle.std.proofs.lemmas.List.{length-take-le}
 use mir.Val.{bool_byte}
 use borrow.Author.Tests.{lt-leb}
 use Rattle.faults.specs.declared.Reason.TheVariants.{TooFewTruths, BadLength}
-use Rattle.definitions.specs.Lists.{some, from, up_to, is_some}
+use Rattle.definitions.specs.Lists.{some, from, is_some}
 use Rattle.definitions.specs.Algebras.{truth}
 use Rattle.definitions.specs.Reading.{Reading, got, bad, ended, complete}
 use Rattle.definitions.specs.Boolean.{Variable, rank_of, sign_of_rank, boolean_reading, read_boolean, solves, rank_block, used_ranks}
@@ -18,7 +17,7 @@ use Rattle.system.specs.declared.header.Sign.{Sign as KeptSign}
 use Rattle.system.specs.Files.{kept_sign}
 use Rattle.boolean.specs.declared.entries.Variables.{Variables}
 use Rattle.boolean.specs.declared.blocks.Blocks.{Blocks}
-use Rattle.theorems.proofs.Listing.{from_long}
+use Rattle.theorems.proofs.Histories.{solves_long}
 use Rattle.boolean.specs.Steps.{assigned}
 use Rattle.boolean.specs.Files.{SignKept, Described}
 use Rattle.boolean.proofs.Entering.{ranks_small, alike_everywhere}
@@ -30,8 +29,8 @@ pub got_small : (f : List ℕ) (vs : List Variable) → boolean_reading f ≡ go
 got_small f vs e = go (ended (complete read_boolean f 0)) (eqb (length f) 0) (ltb 65535 (length f)) refl e
   where
     go : (z : Reading (List Variable)) (a b : Bool) → ltb 65535 (length f) ≡ b → elim (a || b) [ true ↦ bad BadLength 0 | false ↦ z ] ≡ got vs → length f ≤ 65535
-    go z true b p q = let n : ◌≡◌ {A = ℕ} 0 1 = cc in absurd (omega arith)
-    go z false true p q = let n : ◌≡◌ {A = ℕ} 0 1 = cc in absurd (omega arith)
+    go z true b p q = absurd cc
+    go z false true p q = absurd cc
     go z false false p q = ltb-false 65535 (length f) p
 
 pub variables_of_lem : (f : List ℕ) (vs : List Variable) → boolean_reading f ≡ got vs → variables_of f ≡ vs
@@ -67,9 +66,6 @@ taken g (suc n) k (x ∷ xs) l h =
     let i : k + 0 ≡ k = omega arith in
     ap (λ y. truth y ∷ map truth (take n xs)) (h 0 ∙ ap g i) ∙
     ap (λ ys. truth (g k) ∷ ys) (taken g n (suc k) xs (omega arith) (λ j. let e : k + suc j ≡ suc k + j = omega arith in h (suc j) ∙ ap g e))
-
-pub solves_long : (vs : List Variable) → length (solves vs) ≡ length vs
-solves_long vs = length-map (up_to (length vs)) _ ∙ from_long 0 (length vs)
 
 -- the truths found are those of the variables
 pub solution_bytes : (vs : List Variable) (b : Blocks) (ts : List Bool) → SolvedAlike vs b → length vs ≤ length ts →

@@ -128,7 +128,7 @@ module _ (f : List ℕ) (n : ℕ) where
   kept_at (v ∷ vs) (e ∷ es) k (suc i) d l = kept_at vs es k.1 i d (omega arith)
 
   pub ranks_small : (vs : List Variable) (es : List Entry) → AllKept f n vs es → (i : ℕ) (v : Variable) → at vs i ≡ Some v → v.rank < 32
-  ranks_small [] es k i v a = let z : ◌≡◌ {A = ℕ} 0 1 = cc in absurd (omega arith)
+  ranks_small [] es k i v a = absurd cc
   ranks_small (w ∷ vs) [] k i v a = absurd k
   ranks_small (w ∷ vs) (e ∷ es) k zero v a = let j : w ≡ v = cc in subst (λ (u : Variable). u.rank < 32) j (omega (arith, e.small, k.0.rank))
   ranks_small (w ∷ vs) (e ∷ es) k (suc i) v a = ranks_small vs es k.1 i v a
@@ -182,7 +182,7 @@ module _ (n : ℕ) (vs : List Variable) (f : List ℕ) (x : Variables) (d : Ente
     same k e = go (get_or x.signs r None) e suits
       where
         go : (o : Option KeptSign) → o ≡ Some k → MatchOption o (b ≡ true) (λ k. b ≡ same_sign (kept_sign k) (kept_sign g)) → kept_sign k ≡ kept_sign g
-        go None e h = let z : ◌≡◌ {A = ℕ} 0 1 = cc in absurd (omega arith)
+        go None e h = absurd cc
         go (Some m) e h = let j : m ≡ k = cc in same_sign_true (kept_sign k) (kept_sign g) (ap (λ u. same_sign (kept_sign u) (kept_sign g)) (sym j) ∙ sym h ∙ z)
 
     free : clashes vs (sign_of y) r ≡ false

@@ -26,7 +26,7 @@ use Rattle.boolean.specs.declared.blocks.Blocks.{Blocks}
 use Rattle.boolean.specs.Ranked.{variable_body, Signed, in_block, block_at, blocks_below, used_by, Merged}
 use Rattle.theorems.proofs.Expands.{variables_mono}
 use Rattle.theorems.proofs.Enough.{rank_enough}
-use Rattle.theorems.proofs.Listing.{from_long}
+use Rattle.theorems.proofs.Listing.{at_lt, from_long}
 use Rattle.theorems.proofs.Marks.{from_mem}
 
 -- blocks of one sign and the same members are alike, whatever their rounds
@@ -44,17 +44,12 @@ module _ {I V : Type 0} (O : Order V) (body : (I → V) → I → V) (m : Monoto
       let k : b ≡ record { sign = c.sign; inside = c.inside; rounds = b.rounds } = λ i. record { sign = p i; inside = λ x. h x i; rounds = b.rounds } in
       ap (λ z. solve O body (z ∷ bs) e) k ∙ rounds_apart c.sign c.inside b.rounds c.rounds (subst (Enough O) k nb) nc e
 
-at_below : {A : Type 0} (xs : List A) (j : ℕ) (x : A) → at xs j ≡ Some x → j < length xs
-at_below [] j x e = let z : ◌≡◌ {A = ℕ} 0 1 = cc in absurd (omega arith)
-at_below (y ∷ xs) zero x e = omega arith
-at_below (y ∷ xs) (suc j) x e = let h : j < length xs = at_below xs j x e in omega arith
-
 pub in_below : (vs : List Variable) (bs : List ℕ) (k j : ℕ) → in_block (at vs j) bs k ≡ true → j < length vs
 in_below vs bs k j h = go (at vs j) refl h
   where
     go : (o : Option Variable) → at vs j ≡ o → in_block o bs k ≡ true → j < length vs
     go None e h = absurd (false≢true h)
-    go (Some v) e h = at_below vs j v e
+    go (Some v) e h = at_lt vs j v e
 
 pub block_enough : (vs : List Variable) (bs : List ℕ) (k : ℕ) (s : KeptSign) → Enough order.truths (block_at vs bs k s)
 block_enough vs bs k s =
@@ -225,7 +220,7 @@ outermost h ss (Some a) b e k =
     (omega (arith, r.0), r.1 ∙ h a b k)
   where
     found : (ss : List KeptSign) (i : ℕ) (s : KeptSign) → slice_get ss i ≡ Some s → (i < length ss) × (get_or ss i Least ≡ s)
-    found [] i s e = let z : ◌≡◌ {A = ℕ} 0 1 = cc in absurd (omega arith)
+    found [] i s e = absurd cc
     found (x ∷ ss) zero s e = let j : x ≡ s = cc in (omega arith, j)
     found (x ∷ ss) (suc i) s e = let r = found ss i s e in (omega (arith, r.0), r.1)
 

@@ -12,10 +12,10 @@ use Rattle.boolean.specs.Steps.{mapped, read_said}
 -- what was read where the truth of a body was
 pub unmapped : {X Y : Type 0} (g : X → Y) (y : Y) (q : ℕ) (m : Step X) → next y q ≡ mapped g m → (x : X) × (m ≡ next x q) × (y ≡ g x)
 unmapped g y q (next x t) e = let k : t ≡ q = cc in let j : y ≡ g x = cc in (x, ap (λ z. next x z) k, j)
-unmapped g y q (stop r t) e = let z : ◌≡◌ {A = ℕ} 0 1 = cc in absurd (omega arith)
+unmapped g y q (stop r t) e = absurd cc
 
 pub unstopped : {X Y : Type 0} (g : X → Y) (r : Reason) (q : ℕ) (m : Step X) → stop r q ≡ mapped g m → stop r q ≡ m
-unstopped g r q (next x t) e = let z : ◌≡◌ {A = ℕ} 0 1 = cc in absurd (omega arith)
+unstopped g r q (next x t) e = absurd cc
 unstopped g r q (stop s t) e = let i : s ≡ r = cc in let j : t ≡ q = cc in sym (ap (λ z. stop z t) i ∙ ap (λ z. stop r z) j)
 
 -- the truth of any of the parts, or of all

@@ -1,5 +1,5 @@
 -- One sweep over a block, and its start.
-use Rattle.std.proofs.Common.{◌≡◌, ℕ, zero, suc, ◌+◌, ◌<◌, ◌≤◌, Bool, true, false, ◌||◌, eqb, List, [], ◌∷◌, length, get_or, set, take, Some, None, Option, sym, refl, ap, ◌∙◌, subst, true≢false, arith, get_or-set_other, get_or-set_same, ne_eqb, eqb-true}
+use Rattle.std.proofs.Common.{◌≡◌, ℕ, zero, suc, ◌+◌, ◌<◌, ◌≤◌, Bool, true, false, ◌||◌, eqb, List, length, get_or, set, Some, None, Option, sym, refl, ap, ◌∙◌, subst, true≢false, arith, get_or-set_other, get_or-set_same, ne_eqb, eqb-true}
 use Rattle.std.proofs.Math.Logic.{∥∥₁_elim}
 use Rattle.std.proofs.Math.Nat.{ℕ_set}
 use Rattle.std.proofs.Math.Bool.{Bool-set}
@@ -175,7 +175,7 @@ module _ (s : Solver) where
       body_told b u z = ∥∥₁_elim s.described (Bool-set _ _) (λ d. let j : next b u ≡ next (body s h v) (body_is d).0 = z ∙ (body_is d).1 in cc)
 
       pub body_reads : (r : Reason) (u : ℕ) → stop r u ≡ read_said (length es) 8 h s.file.now e.body → ⊥
-      body_reads r u z = ∥∥₁_elim s.described (λ x y. absurd x) (λ d. let j : stop r u ≡ next (body s h v) (body_is d).0 = z ∙ (body_is d).1 in let z : ◌≡◌ {A = ℕ} 0 1 = cc in omega arith)
+      body_reads r u z = ∥∥₁_elim s.described (λ x y. absurd x) (λ d. let j : stop r u ≡ next (body s h v) (body_is d).0 = z ∙ (body_is d).1 in cc)
 
 pub few_entries : (x : Variables) → length (listed x.entries) ≤ 4096
 few_entries x = listed_within x.entries

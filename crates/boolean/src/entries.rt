@@ -4,6 +4,8 @@ ghost use Rattle.std.specs.Prelude.{◌<◌};
 use rows::Row;
 use system::header::Sign;
 
+// The limits of the format. `expansion` has the same numbers as the limits of an expand: neither crate sees the other.
+
 /// The longest Boolean file, in bytes.
 pub const LONGEST_BOOLEAN: usize = 65535;
 

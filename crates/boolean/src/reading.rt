@@ -34,6 +34,7 @@ fn read_entry(
     let sign = Sign::from_bit(cursor.field(1)?);
     let place = cursor.at;
     let rank = cursor.field(5)?;
+    // A test of the definitions, by a function of its own: the proof cites what it says.
     if !suits(variables.signs[rank as usize], sign) {
         return Err(Stop {
             reason: Reason::RankOfBothSigns,

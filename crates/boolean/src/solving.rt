@@ -20,7 +20,7 @@ use bits::Cursor;
 use faults::{Reason, SolveFault};
 use system::header::Sign;
 
-// The truth that the variables of a block move to: they begin with the other.
+// The truth that the variables of a block move to: they begin with the other. One test says both cases of the definition.
 fn moves_to(sign: Sign) -> bool
     ensures { result ≡ moves_to sign }
 {
@@ -41,6 +41,7 @@ impl<'a> Solver<'a> {
         ensures { assigned truths.new ≡ put (block self.now k) (λ _. edge false true (kept_sign (sign self.now k))) (assigned truths.old) }
     {
         let start = !moves_to(self.blocks.signs.as_slice()[k]);
+        // By index: a proof knows nothing of the truths after a loop over `truths.iter_mut().zip(..)`.
         for (v, entry) in self.variables.entries.as_slice().iter().enumerate() {
             if self.belongs(k, entry) {
                 truths[v] = start;
@@ -129,6 +130,7 @@ fn deliver(solution: &[bool], truths: &mut [u8])
     requires room { length solution.now ≤ length truths.old }
     ensures { truths.new ≡ map byte_of solution.now ++ drop (length solution.now) truths.old }
 {
+    // By index: after a loop over `truths.iter_mut().zip(..)` a proof knows no more of the truths than how many there are.
     for (v, truth) in solution.iter().enumerate() {
         truths[v] = *truth as u8;
     }

@@ -5,17 +5,13 @@ use mathlib.Core.Bool.{Bool, true, false, false≢true}
 use mathlib.Core.List.Memᴰ
 use mathlib.Core.List.{List, [], ◌∷◌, ◌++◌, map, Memᴰ}
 use mathlib.Core.Logic.{◌⊎◌, inl, inr}
-use lib.ListN.{length}
+use lib.ListN.{length-map}
 use Rattle.definitions.specs.Solution.{Block}
 use Rattle.definitions.specs.Order.{Order, Enough}
 use Rattle.definitions.specs.Fits.{Every}
 use Rattle.fixpoint.specs.Laws.{Agree, Coupled, in_blocks, widen, only_old, FormulaPulledOut}
 use Rattle.fixpoint.proofs.Solves.{or_left, or_right, in_mid}
 use Rattle.fixpoint.proofs.Couple.{couple}
-
-length_map' : {A B : Type 0} (f : A → B) (l : List A) → length (map f l) ≡ length l
-length_map' f [] = refl
-length_map' f (x ∷ l) = ap (λ n. Prim.Native.Nat.suc n) (length_map' f l)
 
 module _ {I : Type 0} (K : Type 0) {V : Type 0} (O : Order V) where
   widen_all : (l : List I) (p : I → Bool) → ((x : I) → p x ≡ true → Memᴰ x l) → (z : I ⊎ K) → only_old p z ≡ true →
@@ -28,16 +24,16 @@ module _ {I : Type 0} (K : Type 0) {V : Type 0} (O : Order V) where
       record {
         members = map inl n.members;
         all = widen_all n.members b.inside n.all;
-        rounds_le = subst (λ t. O.high * t ≤ b.rounds) (sym (length_map' inl n.members)) n.rounds_le;
+        rounds_le = subst (λ t. O.high * t ≤ b.rounds) (sym (length-map n.members inl)) n.rounds_le;
       }
 
   pub enough_widens : (bs : List (Block I)) → Every (Enough O) bs → Every (Enough O) (map (widen K) bs)
   enough_widens [] n = tt
   enough_widens (b ∷ bs) n = (enough_widen b n.0, enough_widens bs n.1)
 
-pub each_append : {A : Type 0} (P : A → Type 0) (xs ys : List A) → Every P xs → Every P ys → Every P (xs ++ ys)
-each_append P [] ys h k = k
-each_append P (x ∷ xs) ys h k = (h.0, each_append P xs ys h.1 k)
+pub every_append : {A : Type 0} (P : A → Type 0) (xs ys : List A) → Every P xs → Every P ys → Every P (xs ++ ys)
+every_append P [] ys h k = k
+every_append P (x ∷ xs) ys h k = (h.0, every_append P xs ys h.1 k)
 
 module _ {I K V : Type 0} (body : (I → V) → I → V) (body' : (I ⊎ K → V) → I ⊎ K → V) where
   abbrev Same : I → I ⊎ K → Type 0
@@ -80,7 +76,7 @@ pub pull : (I K V : Type 0) → FormulaPulledOut I K V
 pull I K V O body body' m m' pre post c n n' n'' apart owners others e e' h i =
     couple I (I ⊎ K) V V O O (λ a b. a ≡ b) (λ x j. inl x ≡ j) refl refl body body' m m'
     (pre ++ post) (map (widen K) pre ++ (c ∷ map (widen K) post))
-    (each_append (Enough O) pre post n n')
-    (each_append (Enough O) (map (widen K) pre) (c ∷ map (widen K) post) (enough_widens K O pre n) (n'', enough_widens K O post n'))
+    (every_append (Enough O) pre post n n')
+    (every_append (Enough O) (map (widen K) pre) (c ∷ map (widen K) post) (enough_widens K O pre n) (n'', enough_widens K O post n'))
     (before body body' c post apart (behind body body' post others) pre owners)
     e e' (λ x j r. h x ∙ ap e' r) i (inl i) refl

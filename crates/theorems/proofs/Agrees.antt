@@ -1,5 +1,5 @@
 -- A known value agrees with the value under every completion.
-use Rattle.std.proofs.Common.{◌≡◌, ℕ, true, false, List, [], ◌∷◌, map, get_or, Some, None, Option, refl, arith}
+use Rattle.std.proofs.Common.{◌≡◌, ℕ, true, false, List, [], ◌∷◌, map, get_or, Some, None, Option, refl}
 use Rattle.std.proofs.lemmas.Bool.{eqb-true}
 use Rattle.definitions.specs.Alg.{Alg}
 use Rattle.definitions.specs.Systems.{Kind, parameter, variable, value, operation, not, and, or, equal, Term, Terms, node, none, more, folds}
@@ -49,4 +49,4 @@ plain_under a ps vs t = value_under a ps [] vs (λ n. unknown) t
 
 pub under_some : {x y : Option ℕ} → Under x y → (v : ℕ) → y ≡ Some v → x ≡ Some v
 under_some same v e = e
-under_some unknown v e = let z : ◌≡◌ {A = ℕ} 0 1 = cc in absurd (omega arith)
+under_some unknown v e = absurd cc

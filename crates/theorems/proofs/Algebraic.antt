@@ -13,23 +13,15 @@ use Rattle.definitions.specs.FileFits.{OpFits, TableFits}
 use Rattle.definitions.specs.Tables.{TableOp, Table, place_of, tabled, table, table_reading}
 use Rattle.definitions.specs.Calls.{Bytes, Filling, filled, unfilled, counting_fill, table_fill_by, table_fill}
 use Rattle.theorems.specs.AlgebraLaws.{AlgebrasLawful}
-use Rattle.theorems.proofs.Listing.{none_some, some_same, get_or_some, every_at, every_append, every_mapped, every_with, at_lt, and_left, and_right}
+use Rattle.fixpoint.proofs.Pull.{every_append}
+use Rattle.theorems.proofs.Listing.{bind_inv, at_some, none_some, some_same, get_or_some, every_at, every_mapped, every_with, at_lt, and_left, and_right}
 use Rattle.theorems.proofs.TableFiles.{table_forth}
 use Rattle.theorems.proofs.Ranges.{truth_low}
-
-at_some : {A : Type 0} (l : List A) (k : ℕ) → k < length l → (x : A) × (at l k ≡ Some x)
-at_some [] k h = absurd (omega arith)
-at_some (x ∷ l) zero h = (x, refl)
-at_some (x ∷ l) (suc k) h = at_some l k (omega arith)
 
 at_over : {A : Type 0} (l : List A) (k : ℕ) → length l ≤ k → at l k ≡ None
 at_over [] k h = refl
 at_over (x ∷ l) zero h = absurd (omega arith)
 at_over (x ∷ l) (suc k) h = at_over l k (omega arith)
-
-bind_inv : {A B : Type 0} (o : Option A) (g : A → Option B) (y : B) → bind o g ≡ Some y → (x : A) × (o ≡ Some x) × (g x ≡ Some y)
-bind_inv None g y e = none_some y e
-bind_inv (Some x) g y e = (x, refl, e)
 
 -- an operation with sorts that are there and values within the result sort
 pub record OpRanges (sizes : List ℕ) (q : Op) : Type 0 where
@@ -236,14 +228,14 @@ counting_filled sizes e = go (sizes_good sizes) refl e
         (every_with (λ n. (leb 1 n && leb n 256) ≡ true) (λ n. (1 ≤ n) × (n ≤ 256)) sizes
         (each_every (λ n. leb 1 n && leb n 256) sizes (and_right (leb (length sizes) 15) (each (λ n. leb 1 n && leb n 256) sizes) t))
         (λ n h. (leb-true 1 n (and_left (leb 1 n) (leb n 256) h), leb-true n 256 (and_right (leb 1 n) (leb n 256) h))))
-    go false t e = let z : ◌≡◌ {A = ℕ} 0 1 = cc in absurd (omega arith)
+    go false t e = absurd cc
 
 table_filled : (f : List ℕ) → Bytes f → (t : Table) → table_fill f ≡ filled t → Lawful (table t)
 table_filled f small t e = go (table_reading f) refl e
   where
     go : (o : Reading Table) → table_reading f ≡ o → table_fill_by o ≡ filled t → Lawful (table t)
     go (got u) r e = let q : u ≡ t = cc in subst (λ (t : Table). Lawful (table t)) q (table_lawful u (table_forth f small u r).1)
-    go (bad r p) q e = let z : ◌≡◌ {A = ℕ} 0 1 = cc in absurd (omega arith)
+    go (bad r p) q e = absurd cc
 
 pub algebras_lawful : AlgebrasLawful
 algebras_lawful =

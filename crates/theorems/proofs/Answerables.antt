@@ -18,10 +18,9 @@ use Rattle.definitions.specs.Settle.{Pass, Ran, wrote, refused, ran_on}
 use Rattle.definitions.specs.Rules.{fitted_in, applied_to, applied}
 use Rattle.definitions.specs.Boolean.{Variable, boolean_written, boolean_reading, solves, Expanded, made, refused as declined, shipped, expanded, expand_read, expand_on}
 use Rattle.definitions.specs.Calls.{Delivered, Loads, Answers, Applies, run_on, run_by, Expanding, Solved, found, unsolved, solve_variables, solve, Solving}
-use Rattle.definitions.specs.Past.{Past, call}
-use Rattle.theorems.specs.CallLaws.{CallsAnswer, CallsAnswerOnce, BuffersAnswer, RunIsApplied, CallsExtendHistories}
+use Rattle.theorems.specs.CallLaws.{CallsAnswer, CallsAnswerOnce, BuffersAnswer, RunIsApplied}
 use Rattle.theorems.proofs.PassRules.{passes_rule}
-use Rattle.theorems.proofs.Histories.{sound, solves_long}
+use Rattle.theorems.proofs.Histories.{sound, found_same, solves_long}
 use Rattle.theorems.proofs.Settled.{settle_answers, settle_one}
 
 load_answer : (a : Alg) (f h : List ℕ) (o : Reading System) → reading a f ≡ o → (r : Result (Unit {0}) ReadFault) × (k : List ℕ) × Loads a f h k r
@@ -40,9 +39,6 @@ pass_answer : (o : Ran) (before : List ℕ) → ((g : List ℕ) → o ≡ wrote 
 pass_answer (wrote g) before l = (Ok (length g), g ++ drop (length g) before, record { file = g; wrote = refl; put = delivered g before (l g refl) })
 pass_answer (refused x) before l = (Err x, before, record { why = refl; kept = refl })
 
-wrote_refused : {g : List ℕ} {x : PassFault} → wrote g ≡ refused x → ⊥
-wrote_refused e = let z : ◌≡◌ {A = ℕ} 0 1 = cc in omega arith
-
 wrote_same : {f g : List ℕ} → wrote f ≡ wrote g → f ≡ g
 wrote_same e = cc
 
@@ -54,21 +50,18 @@ fitted_in_lem room h g e = go (leb (length h) room && leb (length h) 8192) refl 
   where
     go : (b : Bool) → (leb (length h) room && leb (length h) 8192) ≡ b → elim b as (λ _. Ran) [ true ↦ wrote h | false ↦ refused (Declined ResultTooLong) ] ≡ wrote g → length g ≤ room
     go true t e = subst (λ (g : List ℕ). length g ≤ room) (wrote_same e) (leb-true (length h) room (and_parts (leb (length h) room) (leb (length h) 8192) t).0)
-    go false t e = absurd (wrote_refused (sym e))
+    go false t e = absurd cc
 
 applied_in : (m : Pass) (a : Alg) (room : ℕ) (o : Reading System) (g : List ℕ) → applied_to m a room o ≡ wrote g → length g ≤ room
 applied_in m a room (got s) g e = fitted_in_lem room (written (m a s)) g e
-applied_in m a room (bad r p) g e = absurd (wrote_refused (sym e))
+applied_in m a room (bad r p) g e = absurd cc
 
-made_refused : {g : List ℕ} {n : ℕ} {x : ExpandFault} → made g n ≡ declined x → ⊥
-made_refused e = let z : ◌≡◌ {A = ℕ} 0 1 = cc in omega arith
+made_file : {g h : List ℕ} {m n : ℕ} → made g m ≡ made h n → g ≡ h
+made_file e = cc
 
 shipped_in : (places room : ℕ) (vs : List Variable) (g : List ℕ) (n : ℕ) → shipped places room vs ≡ made g n → length g ≤ room
 shipped_in places room vs g n e = go (leb (length vs) places) (leb (length (boolean_written vs)) room && leb (length (boolean_written vs)) 65535) refl e
   where
-    made_file : {g h : List ℕ} {m n : ℕ} → made g m ≡ made h n → g ≡ h
-    made_file e = cc
-
     go : (b c : Bool) → (leb (length (boolean_written vs)) room && leb (length (boolean_written vs)) 65535) ≡ c →
         elim b as (λ _. Expanded) [
           | true ↦ elim c as (λ _. Expanded) [ true ↦ made (boolean_written vs) (length vs) | false ↦ declined (Refused BooleanTooLong) ]
@@ -76,20 +69,20 @@ shipped_in places room vs g n e = go (leb (length vs) places) (leb (length (bool
         ] ≡ made g n → length g ≤ room
     go true true t e = subst (λ (g : List ℕ). length g ≤ room) (made_file e)
         (leb-true (length (boolean_written vs)) room (and_parts (leb (length (boolean_written vs)) room) (leb (length (boolean_written vs)) 65535) t).0)
-    go true false t e = absurd (made_refused (sym e))
-    go false c t e = absurd (made_refused (sym e))
+    go true false t e = absurd cc
+    go false c t e = absurd cc
 
 expand_in : (a : Alg) (places room : ℕ) (h g : List ℕ) (n : ℕ) → expand_on a places room h ≡ made g n → length g ≤ room
-expand_in a places room [] g n e = absurd (made_refused (sym e))
+expand_in a places room [] g n e = absurd cc
 expand_in a places room (x ∷ xs) g n e = read (reading a (x ∷ xs)) e
   where
     listed : (o : Option (List Variable)) → elim o as (λ _. Expanded) [ None ↦ declined (Refused TooManyInstances) | Some vs ↦ shipped places room vs ] ≡ made g n → length g ≤ room
-    listed None e = absurd (made_refused (sym e))
+    listed None e = absurd cc
     listed (Some vs) e = shipped_in places room vs g n e
 
     read : (o : Reading System) → expand_read a places room o ≡ made g n → length g ≤ room
     read (got s) e = listed (expanded a s) e
-    read (bad r p) e = absurd (made_refused (sym e))
+    read (bad r p) e = absurd cc
 
 expand_answer : (o : Expanded) (before : List ℕ) → ((g : List ℕ) (n : ℕ) → o ≡ made g n → length g ≤ length before) → (r : Result (ℕ × ℕ) ExpandFault) × (after : List ℕ) × Expanding o before after r
 expand_answer (made g n) before l = (Ok (length g, n), g ++ drop (length g) before, record { file = g; makes = refl; put = delivered g before (l g n refl) })
@@ -110,22 +103,19 @@ calls_answer es h p =
 read_fault_is : (e d : ReadFault) → e.reason ≡ d.reason → e.place ≡ d.place → e ≡ d
 read_fault_is e d p q = ap₂ (λ (r : Reason) (w : ℕ). record { reason = r; place = w }) p q
 
-got_bad : {s : System} {r : Reason} {p : ℕ} → got s ≡ bad r p → ⊥
-got_bad e = let z : ◌≡◌ {A = ℕ} 0 1 = cc in omega arith
-
 bad_same : {r w : Reason} {p z : ℕ} → ◌≡◌ {A = Reading System} (bad r p) (bad w z) → (r ≡ w) × (p ≡ z)
 bad_same e = (cc, cc)
 
 load_one : (a : Alg) (f h : List ℕ) (q r : Result (Unit {0}) ReadFault) (k m : List ℕ) → Loads a f h k q → Loads a f h m r → (q ≡ r) × (k ≡ m)
 load_one a f h (Ok u) (Ok v) k m s t = (refl, s.holds ∙ sym t.holds)
-load_one a f h (Ok u) (Err d) k m s t = absurd (got_bad (sym s.read ∙ t.why))
-load_one a f h (Err e) (Ok v) k m s t = absurd (got_bad (sym t.read ∙ s.why))
+load_one a f h (Ok u) (Err d) k m s t = absurd cc
+load_one a f h (Err e) (Ok v) k m s t = absurd cc
 load_one a f h (Err e) (Err d) k m s t = let x = bad_same (sym s.why ∙ t.why) in (ap Err (read_fault_is e d x.0 x.1), s.kept ∙ sym t.kept)
 
 run_one : (o : Ran) (h : List ℕ) (q r : Result (Unit {0}) PassFault) (k m : List ℕ) → Answers o h k q → Answers o h m r → (q ≡ r) × (k ≡ m)
 run_one o h (Ok u) (Ok v) k m s t = (refl, wrote_same (sym s ∙ t))
-run_one o h (Ok u) (Err d) k m s t = absurd (wrote_refused (sym s ∙ t.why))
-run_one o h (Err e) (Ok v) k m s t = absurd (wrote_refused (sym t ∙ s.why))
+run_one o h (Ok u) (Err d) k m s t = absurd cc
+run_one o h (Err e) (Ok v) k m s t = absurd cc
 run_one o h (Err e) (Err d) k m s t = (ap Err (refused_same (sym s.why ∙ t.why)), s.kept ∙ sym t.kept)
 
 delivered_one : (f g before after after' : List ℕ) (n m : ℕ) → f ≡ g → Delivered f before after n → Delivered g before after' m → (n ≡ m) × (after ≡ after')
@@ -137,8 +127,8 @@ delivered_one f g before after after' n m e s t = (
 pass_one : (o : Ran) (before after after' : List ℕ) (q r : Result ℕ PassFault) → Applies o before after q → Applies o before after' r → (q ≡ r) × (after ≡ after')
 pass_one o before after after' (Ok n) (Ok m) s t =
     let x = delivered_one s.file t.file before after after' n m (wrote_same (sym s.wrote ∙ t.wrote)) s.put t.put in (ap Ok x.0, x.1)
-pass_one o before after after' (Ok n) (Err d) s t = absurd (wrote_refused (sym s.wrote ∙ t.why))
-pass_one o before after after' (Err e) (Ok m) s t = absurd (wrote_refused (sym t.wrote ∙ s.why))
+pass_one o before after after' (Ok n) (Err d) s t = absurd cc
+pass_one o before after after' (Err e) (Ok m) s t = absurd cc
 pass_one o before after after' (Err e) (Err d) s t = (ap Err (refused_same (sym s.why ∙ t.why)), s.kept ∙ sym t.kept)
 
 expand_one : (o : Expanded) (before after after' : List ℕ) (q r : Result (ℕ × ℕ) ExpandFault) → Expanding o before after q → Expanding o before after' r → (q ≡ r) × (after ≡ after')
@@ -147,13 +137,10 @@ expand_one o before after after' (Ok n) (Ok m) s t =
     let x = delivered_one s.file t.file before after after' n.0 m.0 (made_file y) s.put t.put in
     (ap₂ (λ (i j : ℕ). Ok (i, j)) x.0 (made_count y), x.1)
   where
-    made_file : {g h : List ℕ} {m n : ℕ} → made g m ≡ made h n → g ≡ h
-    made_file e = cc
-
     made_count : {g h : List ℕ} {m n : ℕ} → made g m ≡ made h n → m ≡ n
     made_count e = cc
-expand_one o before after after' (Ok n) (Err d) s t = absurd (made_refused (sym s.makes ∙ t.why))
-expand_one o before after after' (Err e) (Ok m) s t = absurd (made_refused (sym t.makes ∙ s.why))
+expand_one o before after after' (Ok n) (Err d) s t = absurd cc
+expand_one o before after after' (Err e) (Ok m) s t = absurd cc
 expand_one o before after after' (Err e) (Err d) s t = (ap Err (declined_same (sym s.why ∙ t.why)), s.kept ∙ sym t.kept)
   where
     declined_same : {x y : ExpandFault} → declined x ≡ declined y → x ≡ y
@@ -171,22 +158,16 @@ calls_one h =
     }
 
 -- solving
-found_unsolved : {g : List ℕ} {x : SolveFault} → found g ≡ unsolved x → ⊥
-found_unsolved e = let z : ◌≡◌ {A = ℕ} 0 1 = cc in omega arith
-
-found_same : {f g : List ℕ} → found f ≡ found g → f ≡ g
-found_same e = cc
-
 unsolved_same : {x y : SolveFault} → unsolved x ≡ unsolved y → x ≡ y
 unsolved_same e = cc
 
 solve_in : (room : ℕ) (o : Reading (List Variable)) (g : List ℕ) → solve_variables room o ≡ found g → length g ≤ room
-solve_in room (bad r p) g e = absurd (found_unsolved (sym e))
+solve_in room (bad r p) g e = absurd cc
 solve_in room (got vs) g e = go (leb (length vs) room) refl e
   where
     go : (b : Bool) → leb (length vs) room ≡ b → elim b as (λ _. Solved) [ true ↦ found (solves vs) | false ↦ unsolved (record { reason = TooFewTruths; place = 0 }) ] ≡ found g → length g ≤ room
     go true t e = subst (λ (g : List ℕ). length g ≤ room) (found_same e) (subst (λ n. n ≤ room) (sym (solves_long vs)) (leb-true (length vs) room t))
-    go false t e = absurd (found_unsolved (sym e))
+    go false t e = absurd cc
 
 solve_answer : (g before : List ℕ) → (r : Result ℕ SolveFault) × (after : List ℕ) × Solving g before after r
 solve_answer g before = go (solve (length before) g) refl
@@ -198,8 +179,8 @@ solve_answer g before = go (solve (length before) g) refl
 solve_one : (g before after after' : List ℕ) (q r : Result ℕ SolveFault) → Solving g before after q → Solving g before after' r → (q ≡ r) × (after ≡ after')
 solve_one g before after after' (Ok n) (Ok m) s t =
     let x = delivered_one s.bytes t.bytes before after after' n m (found_same (sym s.finds ∙ t.finds)) s.put t.put in (ap Ok x.0, x.1)
-solve_one g before after after' (Ok n) (Err d) s t = absurd (found_unsolved (sym s.finds ∙ t.why))
-solve_one g before after after' (Err e) (Ok m) s t = absurd (found_unsolved (sym t.finds ∙ s.why))
+solve_one g before after after' (Ok n) (Err d) s t = absurd cc
+solve_one g before after after' (Err e) (Ok m) s t = absurd cc
 solve_one g before after after' (Err e) (Err d) s t = (ap Err (unsolved_same (sym s.why ∙ t.why)), s.kept ∙ sym t.kept)
 
 -- a buffer of 8,192 bytes or more is as good as the bench
@@ -228,6 +209,3 @@ buffers_answer =
       solve_answers = solve_answer;
       solve_once = solve_one;
     }
-
-pub calls_follow : CallsExtendHistories
-calls_follow e h k s es p = let q : Past (e ∷ es) k = call p s in (q, sound passes_rule (e ∷ es) k q)

@@ -16,7 +16,7 @@ use Rattle.theorems.specs.FileLaws.{BooleansReadBack}
 use Rattle.theorems.proofs.Goods.{Good, good_then, good_last, good_take, good_for, good_must, good_here, sign_good}
 use Rattle.theorems.proofs.Packs.{packs}
 use Rattle.theorems.proofs.Whole.{Bits, join, number_bits, flat_bits, sign_bits_lem, ends, file_got}
-use Rattle.theorems.proofs.Listing.{every_append}
+use Rattle.fixpoint.proofs.Pull.{every_append}
 
 -- bits
 mutual

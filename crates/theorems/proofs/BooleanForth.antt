@@ -1,6 +1,6 @@
 -- A Boolean file that is read is the file of its variables, which fit.
 use Rattle.faults.specs.declared.Reason.TheVariants.{TooDeep, NoSuchName, RankOfBothSigns}
-use Rattle.std.proofs.Common.{◌≡◌, ℕ, zero, suc, ◌+◌, ◌-◌, ◌*◌, ◌<◌, ◌≤◌, Bool, true, false, not as flip, ◌&&◌, eqb, ◌⊎◌, List, [], ◌∷◌, ◌++◌, map, length, get_or, Some, sym, refl, ap, ◌∙◌, subst, ap₂, subst₂, inl, inr, true≢false, append_assoc, append-nil, zero-add, arith}
+use Rattle.std.proofs.Common.{◌≡◌, ℕ, zero, suc, ◌+◌, ◌-◌, ◌*◌, ◌<◌, ◌≤◌, Bool, true, false, not as flip, ◌&&◌, eqb, ◌⊎◌, List, [], ◌∷◌, ◌++◌, map, length, get_or, Some, sym, refl, ap, ◌∙◌, subst, subst₂, inl, inr, true≢false, append_assoc, append-nil, zero-add, arith}
 use mathlib.Core.Bool.{false≢true}
 use Rattle.std.proofs.lemmas.Bool.{eqb-true, eq-eqb}
 use Rattle.definitions.specs.Lists.{at, flat, some}
@@ -13,17 +13,13 @@ use Rattle.definitions.specs.Boolean.{Form, known, all, any, var, forms, count, 
 use Rattle.definitions.specs.Fits.{Every}
 use Rattle.definitions.specs.FileFits.{FormFits, fit_known, fit_all, fit_any, fit_var, FormsFit, fit_nil, fit_cons, BooleanFits}
 use Rattle.theorems.specs.FileLaws.{BooleansWrittenBack}
-use Rattle.theorems.proofs.Fields.{follow_inv, below_inv}
-use Rattle.theorems.proofs.Sounds.{Sound, sound_then, sound_last, sound_take, sound_for, sound_must, sound_fail, sound_here, sound_give, sound_repeated, sound_map, stands_most, sign_same}
+use Rattle.theorems.proofs.Fields.{stands_most, follow_inv, below_inv}
+use Rattle.theorems.proofs.Sounds.{Sound, sound_then, sound_last, sound_take, sound_for, sound_must, sound_fail, sound_here, sound_give, sound_repeated, sound_map, ◌⊕◌, sign_same}
 use Rattle.theorems.proofs.Repack.{ended_got, repacked}
 use Rattle.theorems.proofs.BooleanBack.{boolean_bits, boolean_bits_lem}
 use Rattle.theorems.proofs.Shapes.{forms_count}
 use Rattle.theorems.proofs.Listing.{none_some, some_same}
 use Rattle.theorems.proofs.Numbers.{at_snoc, every_has}
-
-infixr 30 ◌⊕◌
-◌⊕◌ : {b c d e : List ℕ} → b ≡ c → d ≡ e → b ++ d ≡ c ++ e
-p ⊕ q = ap₂ (λ u v. u ++ v) p q
 
 forms_written : (ps : List (Form ℕ)) → flat (map form_bits ps) ≡ forms_bits (forms ps)
 forms_written [] = refl
@@ -69,7 +65,7 @@ module _ (f : List ℕ) where
     sound_token zero = record {
       run = λ p l x q e.
           let (y, r, _, h) = follow_inv (take 3 f p) (λ _ _. stop TooDeep p) x q e in
-          let z : ◌≡◌ {A = ℕ} 0 1 = cc in absurd (omega arith);
+          absurd cc;
     }
     sound_token (suc d) = sound_here f _ (λ p. sound_then f (take 3) _ _ (sound_take f 3) (λ k bs r. sound_kind d p (sound_token d) k bs r.0))
 

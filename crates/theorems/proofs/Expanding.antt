@@ -50,9 +50,6 @@ expand_keeps a law s fits vs e = by_count a law s fits 4096 vs _ refl e
 pub expand_fits : ExpansionFits
 expand_fits a law s fits vs e = fits_by_count a law s fits 4096 vs _ (omega arith) refl e
 
-refused_made : {P : Type 0} (r : ExpandFault) (n : ℕ) (g : List ℕ) → ◌≡◌ {A = Expanded} (refused r) (made g n) → P
-refused_made r n g e = let z : ◌≡◌ {A = ℕ} 0 1 = cc in absurd (omega arith)
-
 -- the count and the bytes
 pub record Shipped (places room : ℕ) (vs : List Variable) (g : List ℕ) (n : ℕ) : Type 0 where
   pub file : g ≡ boolean_written vs
@@ -73,8 +70,8 @@ shipping places room vs g n h w true true m q e =
       roomy = subst (λ (z : List ℕ). length z ≤ room) w (leb-true (length h) room (and_left (leb (length h) room) (leb (length h) 65535) q));
       short = subst (λ (z : List ℕ). length z ≤ 65535) w (leb-true (length h) 65535 (and_right (leb (length h) room) (leb (length h) 65535) q));
     }
-shipping places room vs g n h w true false m q e = refused_made (Refused BooleanTooLong) n g e
-shipping places room vs g n h w false c m q e = refused_made (Refused TooManyInstances) n g e
+shipping places room vs g n h w true false m q e = absurd cc
+shipping places room vs g n h w false c m q e = absurd cc
 
 solved_first : (vs : List Variable) → 1 ≤ length vs → at (solves vs) 0 ≡ Some (truth (variable_truths vs 0))
 solved_first vs h = go (length vs) h
@@ -87,7 +84,7 @@ pub expand_ships : ExpansionReadAndSolved
 expand_ships a law s fits places room g n e = go (expanded a s) refl e
   where
     go : (o : Option (List Variable)) → expanded a s ≡ o → elim o [ None ↦ refused (Refused TooManyInstances) | Some vs ↦ shipped places room vs ] ≡ made g n → Ships a s places room g n
-    go None w k = refused_made (Refused TooManyInstances) n g k
+    go None w k = absurd cc
     go (Some vs) w k =
         let h = expand_keeps a law s fits vs w in
         let f = expand_fits a law s fits vs w in
@@ -106,9 +103,6 @@ expand_ships a law s fits places room g n e = go (expanded a s) refl e
         }
 
 -- declined
-made_refused : {P : Type 0} (r : ExpandFault) (n : ℕ) (g : List ℕ) → ◌≡◌ {A = Expanded} (made g n) (refused r) → P
-made_refused r n g e = let z : ◌≡◌ {A = ℕ} 0 1 = cc in absurd (omega arith)
-
 same_reason : (a : Alg) (s : System) (places room : ℕ) (r r' : ExpandFault) → ◌≡◌ {A = Expanded} (refused r) (refused r') → Declines a s places room r → Declines a s places room r'
 same_reason a s places room r r' e d = let u : r ≡ r' = cc in subst (Declines a s places room) u d
 
@@ -137,7 +131,7 @@ module _ (a : Alg) (s : System) where
   declining : (places room : ℕ) (vs : List Variable) → expanded a s ≡ Some vs → (r : ExpandFault) (b c : Bool) → leb (length vs) places ≡ b →
       (leb (length (boolean_written vs)) room && leb (length (boolean_written vs)) 65535) ≡ c →
       elim b [ true ↦ elim c [ true ↦ made (boolean_written vs) (length vs) | false ↦ refused (Refused BooleanTooLong) ] | false ↦ refused (Refused TooManyInstances) ] ≡ refused r → Declines a s places room r
-  declining places room vs w r true true m q e = made_refused r (length vs) (boolean_written vs) e
+  declining places room vs w r true true m q e = absurd cc
   declining places room vs w r true false m q e = same_reason a s places room (Refused BooleanTooLong) r e (go (leb (length (boolean_written vs)) room) refl q)
     where
       go : (d : Bool) → leb (length (boolean_written vs)) room ≡ d → (d && leb (length (boolean_written vs)) 65535) ≡ false → Declines a s places room (Refused BooleanTooLong)

@@ -37,6 +37,10 @@ stands_field f p (suc w) v h = ap₂ (λ x y. x * 2 ^ w + y) h.0 (stands_field f
 pub takes : (f : List ℕ) (p w v : ℕ) → v < 2 ^ w → Stands f p (bits w v) → take w f p ≡ next v (p + w)
 takes f p w v s h = rw (le-leb (p + w) (8 * length f) (stands_end f p w v h), take) (ap (λ n. next n (p + w)) (stands_field f p w v h ∙ mod-eq_of_lt s))
 
+pub stands_most : (f : List ℕ) (p : ℕ) (bs : List ℕ) → Stands f p bs → p + length bs ≤ 8 * length f
+stands_most f p [] h = omega arith
+stands_most f p (b ∷ bs) h = omega (arith, stands_most f (suc p) bs h.1)
+
 -- and back: a field that is read stands there
 pub stands_join : (f : List ℕ) (p : ℕ) (bs cs : List ℕ) → Stands f p bs → Stands f (p + length bs) cs → Stands f p (bs ++ cs)
 stands_join f p [] cs h k = subst (λ q. Stands f q cs) (add-zero p) k
@@ -78,17 +82,17 @@ took f p w v q = go (leb (p + w) (8 * length f)) refl
           small = subst (λ n. n < 2 ^ w) ev (field_below f p w);
           behind = sym eq;
         }
-    go false e h = let z : ◌≡◌ {A = ℕ} 0 1 = cc in absurd (omega arith)
+    go false e h = absurd cc
 
 -- a step of a reader that came through
 pub follow_inv : {A B : Type 0} (m : Step A) (k : A → ℕ → Step B) (y : B) (q : ℕ) → follow m k ≡ next y q →
     (x : A) × (r : ℕ) × (m ≡ next x r) × (k x r ≡ next y q)
 follow_inv (next x r) k y q e = (x, r, refl, e)
-follow_inv (stop r p) k y q e = let z : ◌≡◌ {A = ℕ} 0 1 = cc in absurd (omega arith)
+follow_inv (stop r p) k y q e = absurd cc
 
 pub given_inv : {A : Type 0} (o : Option A) (r : Reason) (t : ℕ) (f : List ℕ) (p : ℕ) (x : A) (q : ℕ) → given o r t f p ≡ next x q → (o ≡ Some x) × (q ≡ p)
 given_inv (Some y) r t f p x q e = let ex : y ≡ x = cc in let eq : q ≡ p = cc in (ap Some ex, eq)
-given_inv None r t f p x q e = let z : ◌≡◌ {A = ℕ} 0 1 = cc in absurd (omega arith)
+given_inv None r t f p x q e = absurd cc
 
 pub suits_inv : (need : Option ℕ) (s t : ℕ) (f : List ℕ) (p : ℕ) (x : Unit {0}) (q : ℕ) → suits need s t f p ≡ next x q → Needs need s × (q ≡ p)
 suits_inv None s t f p x q e = let eq : q ≡ p = cc in (tt, eq)
@@ -96,7 +100,7 @@ suits_inv (Some n) s t f p x q e₀ = go (eqb n s) refl e₀
   where
     go : (b : Bool) → eqb n s ≡ b → must b WrongSort t f p ≡ next x q → (n ≡ s) × (q ≡ p)
     go true e h = let eq : q ≡ p = cc in (eqb-true n s e, eq)
-    go false e h = let z : ◌≡◌ {A = ℕ} 0 1 = cc in absurd (omega arith)
+    go false e h = absurd cc
 
 -- a number below a limit
 pub below_some : (z v : ℕ) → v < z → below z v ≡ Some v
@@ -107,4 +111,4 @@ below_inv z v w = go (ltb v z) refl
   where
     go : (b : Bool) → ltb v z ≡ b → elim b as (λ _. Option ℕ) [ true ↦ Some v | false ↦ None ] ≡ Some w → (v ≡ w) × (v < z)
     go true e h = let k : v ≡ w = cc in (k, ltb-true v z e)
-    go false e h = let z : ◌≡◌ {A = ℕ} 0 1 = cc in absurd (omega arith)
+    go false e h = absurd cc

@@ -9,7 +9,8 @@ use Rattle.definitions.specs.Values.{known, is_false}
 use Rattle.definitions.specs.Terms.{on_parameter, replaced, on_occurrence, on_clause, cut_equation}
 use Rattle.definitions.specs.Fits.{Every, Fits, fit_parameter, fit_value, TermsFit, ValuesFit, header_of, SortFits, HeaderFits, OccurrenceFits, ClauseFits, BodyFits, SystemFits}
 use Rattle.definitions.specs.Constants.{Known, Knowledge, Brought, agreed, agreed_all, taken, learnt, learnt_all, clause_brings, equation_brings, all_bring, brought, unreached, height, least_knowledge, kind_for, inserted, unknown_of, pass_c}
-use Rattle.theorems.proofs.Listing.{every_append, every_map, some_same, none_some, get_or_some, at_map_from, map_from_twice, map_twice, every_mapped, at_map_some, at_mapped, strike_short, map_from_long, every_unmapped}
+use Rattle.fixpoint.proofs.Pull.{every_append}
+use Rattle.theorems.proofs.Listing.{every_map, some_same, none_some, get_or_some, at_map_from, map_from_twice, map_twice, every_mapped, at_map_some, at_mapped, strike_short, map_from_long, every_unmapped}
 use Rattle.theorems.proofs.Ranges.{InSort, known_low}
 use Rattle.theorems.proofs.Cut.{strike_map}
 use Rattle.theorems.proofs.Refit.{replaced_fits, replaced_twice, strike_at, place_low, strike_every, strike_values, strike_terms, every_map_from, value_fits}

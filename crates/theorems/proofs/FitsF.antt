@@ -1,5 +1,5 @@
 -- What the pass F writes fits.
-use Rattle.std.proofs.Common.{◌≡◌, ℕ, suc, ◌<◌, ◌≤◌, Bool, true, false, not as flip, List, [], ◌∷◌, map, length, Some, None, Option, sym, refl, ap, ◌∙◌, subst, arith}
+use Rattle.std.proofs.Common.{◌≡◌, ℕ, suc, ◌<◌, ◌≤◌, Bool, true, false, not as flip, List, [], ◌∷◌, map, Some, None, Option, sym, refl, ap, ◌∙◌, subst, arith}
 use lib.ListN.{length-map}
 use Rattle.definitions.specs.Lists.{at, keep, or_else}
 use Rattle.definitions.specs.Alg.{Alg, Lawful}
@@ -8,8 +8,8 @@ use Rattle.definitions.specs.ReadSystem.{Scope, Header, scope}
 use Rattle.definitions.specs.Values.{known, is_false}
 use Rattle.definitions.specs.Terms.{on_occurrence, on_clause}
 use Rattle.definitions.specs.Passes.{sort_of, folded_as, folded, foldeds, folded_equation, pass_f}
-use Rattle.definitions.specs.Fits.{Fits, fit_parameter, fit_variable, fit_value, fit_operation, fit_not, fit_and, fit_or, fit_equal, FitsArgs, fit_none, fit_more, TermsFit, ValuesFit, Every, header_of, HeaderFits, OccurrenceFits, ClauseFits, BodyFits, SystemFits}
-use Rattle.theorems.proofs.Listing.{every_map, none_some, every_mapped, at_map_some, at_mapped, every_unmapped}
+use Rattle.definitions.specs.Fits.{Fits, fit_parameter, fit_variable, fit_value, fit_operation, fit_not, fit_and, fit_or, fit_equal, FitsArgs, fit_none, fit_more, TermsFit, ValuesFit, header_of, HeaderFits, OccurrenceFits, ClauseFits, BodyFits, SystemFits}
+use Rattle.theorems.proofs.Listing.{every_map, every_keep, keep_short, none_some, every_mapped, at_map_some, at_mapped, every_unmapped}
 use Rattle.theorems.proofs.Ranges.{InSort, known_low}
 use Rattle.theorems.proofs.Refit.{value_fits}
 use Rattle.theorems.proofs.KeepsF.{shut, opened}
@@ -46,22 +46,6 @@ module _ (a : Alg) (law : Lawful a) (c : Scope) where
     folded_args : {d o k n : ℕ} {ts : Terms} → FitsArgs a c d o k n ts → FitsArgs a c d o k n (foldeds ts a)
     folded_args fit_none = fit_none
     folded_args (fit_more e h r) = fit_more e (folded_fits h) (folded_args r)
-
-keep_short : {A : Type 0} (q : A → Bool) (xs : List A) → length (keep q xs) ≤ length xs
-keep_short q [] = omega arith
-keep_short {A} q (x ∷ xs) = go (q x) (keep_short q xs)
-  where
-    go : (b : Bool) → length (keep q xs) ≤ length xs → length (elim b as (λ _. List A) [ true ↦ x ∷ keep q xs | false ↦ keep q xs ]) ≤ suc (length xs)
-    go true h = omega arith
-    go false h = omega arith
-
-keep_every : {A : Type 0} (P : A → Type 0) (q : A → Bool) (xs : List A) → Every P xs → Every P (keep q xs)
-keep_every P q [] h = tt
-keep_every {A} P q (x ∷ xs) h = go (q x) (keep_every P q xs h.1)
-  where
-    go : (b : Bool) → Every P (keep q xs) → Every P (elim b as (λ _. List A) [ true ↦ x ∷ keep q xs | false ↦ keep q xs ])
-    go true k = (h.0, k)
-    go false k = k
 
 module _ (a : Alg) (law : Lawful a) where
   terms_folded : (c : Scope) (ss : List ℕ) (ts : List Term) → TermsFit a c ss ts → TermsFit a c ss (map (λ t. folded t a) ts)
@@ -118,7 +102,7 @@ module _ (a : Alg) (law : Lawful a) where
         );
         fit = every_mapped (ClauseFits a hs' (scope (header_of e))) (on_clause (λ j ts. ts) (λ t. folded t a)) (keep (λ (c : Clause). flip (is_false (known a [] c.guard))) e.clauses)
             (every_map (keep (λ (c : Clause). flip (is_false (known a [] c.guard))) e.clauses) (clause_fits hs hs' same (scope (header_of e)))
-            (keep_every (ClauseFits a hs (scope (header_of e))) (λ (c : Clause). flip (is_false (known a [] c.guard))) e.clauses b.fit));
+            (every_keep (ClauseFits a hs (scope (header_of e))) (λ (c : Clause). flip (is_false (known a [] c.guard))) e.clauses b.fit));
       })
 
   pub fits : (s : System) → SystemFits a s → SystemFits a (pass_f a s)

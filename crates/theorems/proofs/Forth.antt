@@ -9,11 +9,7 @@ use Rattle.definitions.specs.Reading.{Step, next, stop, Reader, take, follow, on
 use Rattle.definitions.specs.ReadSystem.{Scope, Sorted, of, suits, read_term, read_parameter, read_variable, read_value, read_operation, read_truths, read_equal, read_kind}
 use Rattle.definitions.specs.Written.{kind_bits, term_bits}
 use Rattle.definitions.specs.Fits.{Fits, FitsArgs, fit_parameter, fit_variable, fit_value, fit_operation, fit_not, fit_and, fit_or, fit_equal, fit_none, fit_more, Needs}
-use Rattle.theorems.proofs.Fields.{stands_join, took, follow_inv, given_inv, suits_inv, below_inv}
-
-stands_end' : (f : List ℕ) (p : ℕ) (bs : List ℕ) → Stands f p bs → p + length bs ≤ 8 * length f
-stands_end' f p [] h = omega arith
-stands_end' f p (b ∷ bs) h = omega (arith, stands_end' f (suc p) bs h.1)
+use Rattle.theorems.proofs.Fields.{stands_most, stands_join, took, follow_inv, given_inv, suits_inv, below_inv}
 
 -- two in a row
 record Two {A : Type 0} (r : Reader A) (f : List ℕ) (p : ℕ) (ts : List A) (q : ℕ) : Type 0 where
@@ -33,12 +29,12 @@ two {A} r f p ts q = go (r f p) refl
         let eq : p'' ≡ q = cc in
         let ets : ts ≡ t ∷ u ∷ [] = cc in
         record { t = t; u = u; p' = p'; first = e; second = e' ∙ ap (next u) eq; both = ets }
-    rest t p' e (stop w n) e' h = let z : ◌≡◌ {A = ℕ} 0 1 = cc in absurd (omega arith)
+    rest t p' e (stop w n) e' h = absurd cc
 
     go : (m : Step A) → r f p ≡ m → follow m (λ t n. follow (follow (r f n) (λ y n'. next (y ∷ []) n')) (λ ys n'. next (t ∷ ys) n')) ≡ next ts q →
         Two r f p ts q
     go (next t p') e h = rest t p' e (r f p') refl h
-    go (stop w n) e h = let z : ◌≡◌ {A = ℕ} 0 1 = cc in absurd (omega arith)
+    go (stop w n) e h = absurd cc
 
 pub record Got (a : Alg) (c : Scope) (f : List ℕ) (d : ℕ) (need : Option ℕ) (p : ℕ) (x : Sorted) (q : ℕ) : Type 0 where
   pub fits : Fits a c d x.the_sort x.the_term
@@ -111,7 +107,7 @@ module _ (a : Alg) (c : Scope) (f : List ℕ) (d : ℕ) where
             let eq : p₃ ≡ q = cc in
             subst₂ (λ l m. GotArgs o k (suc n) p l m) ex eq
             (row_more o k n p x p₂ ys p₃ s e g
-            (r (subst (λ m. m ≤ 8 * length f) (sym g.behind) (stands_end' f p (term_bits x.the_term) g.stands))))
+            (r (subst (λ m. m ≤ 8 * length f) (sym g.behind) (stands_most f p (term_bits x.the_term) g.stands))))
 
   module _ (p : ℕ) (need : Option ℕ) where
     got_parameter : Stands f p (bits 3 0) → Sound (read_parameter a c part p need) p need
@@ -264,7 +260,7 @@ module _ (a : Alg) (c : Scope) (f : List ℕ) (d : ℕ) where
               Needs need s → p₅ ≡ p + 3 + 6 → one_by_one (λ j. part (a.arg_sort o j)) (from 0 n) f p₅ ≡ next xs p₆ →
               next (of s (operation o) (map (λ (y : Sorted). y.the_term) xs)) p₆ ≡ next x q → Got a c f (suc d) need p x q
           apart o n s p₅ xs p₆ small stands e₁ e₂ nd place e₆ k₆ =
-              let g = got_row ih n o 0 (there o n e₁) p₅ (subst (λ m. m ≤ 8 * length f) (sym place) (stands_end' f (p + 3) (bits 6 o) stands)) xs p₆ e₆ in
+              let g = got_row ih n o 0 (there o n e₁) p₅ (subst (λ m. m ≤ 8 * length f) (sym place) (stands_most f (p + 3) (bits 6 o) stands)) xs p₆ e₆ in
               let rest = flat (folds (terms (map (λ (y : Sorted). y.the_term) xs)) (λ kind parts. kind_bits kind ++ flat parts)) in
               let at₅ : p₅ ≡ p + 9 = omega arith in
               onto need p (of s (operation o) (map (λ (y : Sorted). y.the_term) xs)) x p₆ q k₆
@@ -293,8 +289,7 @@ pub sound : (a : Alg) (c : Scope) (f : List ℕ) → ((o n : ℕ) → a.arity o 
     (d : ℕ) (need : Option ℕ) (p : ℕ) (x : Sorted) (q : ℕ) → read_term a c d need f p ≡ next x q → Got a c f d need p x q
 sound a c f there zero need p x q e =
     let (k, p₂, e₂, k₂) = follow_inv (take 3 f p) _ x q e in
-    let z : ◌≡◌ {A = ℕ} 0 1 = cc in
-    absurd (omega arith)
+    absurd cc
 sound a c f there (suc d) need p x q e =
     let (k, p₂, e₂, k₂) = follow_inv (take 3 f p) _ x q e in
     let t = took f p 3 k p₂ e₂ in

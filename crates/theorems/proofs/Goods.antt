@@ -22,9 +22,19 @@ use Rattle.theorems.proofs.Listing.{every_map}
 pub record Good (f : List ℕ) {A : Type 0} (r : Reader A) (x : A) (bs : List ℕ) : Type 0 where
   pub run : (p : ℕ) → Stands f p bs → r f p ≡ next x (p + length bs)
 
-pub long : (w v : ℕ) → length (bits w v) ≡ w
-long zero v = refl
-long (suc w) v = ap suc (long w _)
+pub bits_long : (w v : ℕ) → length (bits w v) ≡ w
+bits_long zero v = refl
+bits_long (suc w) v = ap suc (bits_long w _)
+
+-- the bits of a header alone, and of those of a system's equations
+abbrev pub head_bits : Header → List ℕ
+head_bits e =
+    sign_bits e.sign ++ (bits 4 (length e.sorts) ++ (flat (map (bits 4) e.sorts) ++
+    (bits 2 (length e.quantified) ++ flat (map (λ (q : Quantified). quantifier_bits q.quantifier ++ bits 4 q.sort) e.quantified))))
+
+pub heads_same : (es : List Equation) → flat (map head_bits (map header_of es)) ≡ flat (map header_bits es)
+heads_same [] = refl
+heads_same (e ∷ es) = ap (λ bs. header_bits e ++ bs) (heads_same es)
 
 module _ (f : List ℕ) where
   pub good_then : {A B : Type 0} (m : Reader A) (k : A → Reader B) {x : A} {y : B} {bs cs : List ℕ} → Good f m x bs → Good f (k x) y cs → Good f (m >>= k) y (bs ++ cs)
@@ -39,7 +49,7 @@ module _ (f : List ℕ) where
   good_last g h = record { run = λ p s. ap (λ r. follow r (λ x q. next (g x) q)) (h.run p s) }
 
   pub good_take : (w v : ℕ) → v < 2 ^ w → Good f (take w) v (bits w v)
-  good_take w v l = record { run = λ p h. takes f p w v l h ∙ ap (next v) (ap (λ n. p + n) (sym (long w v))) }
+  good_take w v l = record { run = λ p h. takes f p w v l h ∙ ap (next v) (ap (λ n. p + n) (sym (bits_long w v))) }
 
   pub good_for : {A : Type 0} (w v : ℕ) (what : ℕ → Option A) (r : Reason) (y : A) → v < 2 ^ w → what v ≡ Some y → Good f (take_for w what r) y (bits w v)
   good_for w v what r y l e = record { run = λ p h. rw ((good_take w v l).run p h, e) refl }
@@ -83,11 +93,6 @@ module _ (f : List ℕ) where
         let (n, e, l, e') = quantifier_good q.quantifier in
         subst₂ (λ bs k. Good f (read_quantified a) (record { quantifier = k; sort = q.sort }) (bs ++ bits 4 q.sort)) (sym e) e'
         (good_then _ _ (good_take 1 n l) (good_last (λ s. record { quantifier = quantifier_of n; sort = s }) (good_sort q.sort h)))
-
-    abbrev pub head_bits : Header → List ℕ
-    head_bits e =
-        sign_bits e.sign ++ (bits 4 (length e.sorts) ++ (flat (map (bits 4) e.sorts) ++
-        (bits 2 (length e.quantified) ++ flat (map (λ q. quantifier_bits q.quantifier ++ bits 4 q.sort) e.quantified))))
 
     good_header : (h : Header) → HeaderFits a h → Good f (read_header a) h (head_bits h)
     good_header h k =
@@ -153,10 +158,6 @@ module _ (f : List ℕ) where
       body_rows : (es : List Equation) → Every (BodyFits a hs) es → Rows (read_body a hs) body_bits (map header_of es) es
       body_rows [] h = no_row
       body_rows (e ∷ es) h = a_row (good_body e h.0) (body_rows es h.1)
-
-    heads_same : (es : List Equation) → flat (map head_bits (map header_of es)) ≡ flat (map header_bits es)
-    heads_same [] = refl
-    heads_same (e ∷ es) = ap (λ bs. header_bits e ++ bs) (heads_same es)
 
     good_heads : (es : List Equation) → Every (HeaderFits a) (map header_of es) → Good f (repeated (read_header a) (length es)) (map header_of es) (flat (map header_bits es))
     good_heads es h =

@@ -12,8 +12,7 @@ use Rattle.definitions.specs.Fits.{Every, SystemFits}
 use Rattle.definitions.specs.Truth.{verdict}
 use Rattle.definitions.specs.Settle.{Pass, Ran, wrote, refused, fitted, ran_on, run, passes, Round, ended, failed, round_by}
 use Rattle.definitions.specs.Boolean.{made, expand_read, expand_system, Variable, boolean_reading, solves, expand_on}
-use Rattle.faults.specs.declared.Reason.TheVariants.{BenchEmpty, BadLength, NoSuchName, ResultTooLong, TooFewTruths}
-use Rattle.faults.specs.declared.PassFault.{PassFault}
+use Rattle.faults.specs.declared.Reason.TheVariants.{BadLength, ResultTooLong, TooFewTruths}
 use Rattle.faults.specs.declared.PassFault.TheVariants.{Reading as Unread, Declined}
 use Rattle.definitions.specs.Rules.{Rules}
 use Rattle.definitions.specs.Calls.{Bytes, Taken, run_on, lettered, run_by, Settles, equal, again, Makes, Solved, found, unsolved, solve_variables, solve, Solving}
@@ -24,9 +23,6 @@ use Rattle.theorems.proofs.Whole.{whole_back, system_bits_lem}
 use Rattle.theorems.proofs.Repack.{whole_forth, small_bytes}
 use Rattle.theorems.proofs.Expanding.{expand_ships}
 use Rattle.theorems.proofs.Listing.{from_long}
-
-clash : (x : PassFault) (g : List ℕ) → refused x ≡ wrote g → ⊥
-clash x g e = let z : ◌≡◌ {A = ℕ} 0 1 = cc in omega arith
 
 -- what an obeyed pass makes of a system that fits
 pub record Next (a : Alg) (s : System) (g : List ℕ) : Type 0 where
@@ -46,18 +42,18 @@ fitted_short f g e = go (leb (length f) 8192) refl e
   where
     go : (b : Bool) → leb (length f) 8192 ≡ b → elim b as (λ _. Ran) [ true ↦ wrote f | false ↦ refused (Declined ResultTooLong) ] ≡ wrote g → (length f ≤ 8192) × (f ≡ g)
     go true t e = (leb-true (length f) 8192 t, cc)
-    go false t e = absurd (clash (Declined ResultTooLong) g e)
+    go false t e = absurd cc
 
 ran_short : (m : Pass) (a : Alg) (r : Reading System) (g : List ℕ) → ran_on m a r ≡ wrote g → length g ≤ 8192
 ran_short m a (got s) g e = let w = fitted_short (written (m a s)) g e in subst (λ (g : List ℕ). length g ≤ 8192) w.1 w.0
-ran_short m a (bad r p) g e = absurd (clash (Unread (record { reason = r; place = p })) g e)
+ran_short m a (bad r p) g e = absurd cc
 
 pub written_bytes : (s : System) → Bytes (written s)
 written_bytes s = small_bytes ((length (system_bits s) + 7) / 8) (system_bits s) (system_bits_lem s)
 
 ran_bytes : (m : Pass) (a : Alg) (r : Reading System) (g : List ℕ) → ran_on m a r ≡ wrote g → Bytes g
 ran_bytes m a (got s) g e = subst Bytes (fitted_short (written (m a s)) g e).1 (written_bytes (m a s))
-ran_bytes m a (bad r p) g e = absurd (clash (Unread (record { reason = r; place = p })) g e)
+ran_bytes m a (bad r p) g e = absurd cc
 
 does_run : (m : Pass) (a : Alg) (f g : List ℕ) → Rules m → run m a f ≡ wrote g → Does a f g
 does_run m a f g r e = record {
@@ -94,7 +90,7 @@ abbrev pub AllRule : List (ℕ × Pass) → Type 0
 AllRule ms = Every (λ (m : ℕ × Pass). Rules m.1) ms
 
 does_lettered : (ms : List (ℕ × Pass)) → AllRule ms → (l : ℕ) (a : Alg) (f g : List ℕ) → lettered ms l a f ≡ wrote g → Does a f g
-does_lettered [] rs l a f g e = absurd (clash (Declined NoSuchName) g e)
+does_lettered [] rs l a f g e = absurd cc
 does_lettered (m ∷ ms) rs l a f g e = go (does_lettered ms rs.1 l a f g) (eqb l m.0) e
   where
     go : (lettered ms l a f ≡ wrote g → Does a f g) → (b : Bool) → elim b as (λ _. Ran) [ true ↦ run m.1 a f | false ↦ lettered ms l a f ] ≡ wrote g → Does a f g
@@ -107,7 +103,7 @@ does_round (m ∷ ms) rs a f g e = go (λ k. does_round ms rs.1 a k g) (run m.1 
   where
     go : ((k : List ℕ) → round_by a ms k ≡ ended g → Does a k g) → (r : Ran) → run m.1 a f ≡ r → elim r as (λ _. Round) [ wrote k ↦ round_by a ms k | refused e ↦ failed e m.0 ] ≡ ended g → Does a f g
     go i (wrote k) p e = does_both a f k g (does_run m.1 a f k rs.0 p) (i k e)
-    go i (refused x) p e = let z : ◌≡◌ {A = ℕ} 0 1 = cc in absurd (omega arith)
+    go i (refused x) p e = absurd cc
 
 -- what an obeyed call that changes the file does
 pub record Moves (a : Alg) (f g : List ℕ) : Type 0 where
@@ -117,12 +113,12 @@ pub record Moves (a : Alg) (f g : List ℕ) : Type 0 where
 round_empty : (a : Alg) (f g : List ℕ) → round_by a passes f ≡ ended g → f ≡ [] → ⊥
 round_empty a f g e z =
     let q : failed (Unread (record { reason = BadLength; place = 0 })) 0x43 ≡ ended g = sym (ap (round_by a passes) z) ∙ e in
-    let z : ◌≡◌ {A = ℕ} 0 1 = cc in omega arith
+    cc
 
 moves_run : (m : Pass) (a : Alg) (f g : List ℕ) → Rules m → run_on m a f ≡ wrote g → Moves a f g
-moves_run m a [] g r e = absurd (clash (Declined BenchEmpty) g e)
+moves_run m a [] g r e = absurd cc
 moves_run m a (x ∷ xs) g r e = record {
-  not_empty = λ p. let z : ◌≡◌ {A = ℕ} 0 1 = cc in omega arith;
+  not_empty = λ p. cc;
   does = does_run m a (x ∷ xs) g r e;
 }
 
@@ -130,8 +126,8 @@ short_file : {A : Type 0} (n : ℕ) (r : Reader A) (f : List ℕ) (x : A) → fi
 short_file {A} n r f x = go (eqb (length f) 0) (ltb n (length f)) refl
   where
     go : (b c : Bool) → ltb n (length f) ≡ c → elim (b || c) as (λ _. Reading A) [ true ↦ bad BadLength 0 | false ↦ EndingOf (complete r f 0) ] ≡ got x → length f ≤ n
-    go true c t e = let z : ◌≡◌ {A = ℕ} 0 1 = cc in absurd (omega arith)
-    go false true t e = let z : ◌≡◌ {A = ℕ} 0 1 = cc in absurd (omega arith)
+    go true c t e = absurd cc
+    go false true t e = absurd cc
     go false false t e = ltb-false n (length f) t
 
 -- a result in front of a buffer
@@ -139,11 +135,11 @@ pub take_front : (xs ys : List ℕ) → take (length xs) (xs ++ ys) ≡ xs
 take_front [] ys = refl
 take_front (x ∷ xs) ys = ap (λ z. x ∷ z) (take_front xs ys)
 
-found_same : {xs ys : List ℕ} → ◌≡◌ {A = Solved} (found xs) (found ys) → xs ≡ ys
+pub found_same : {xs ys : List ℕ} → ◌≡◌ {A = Solved} (found xs) (found ys) → xs ≡ ys
 found_same e = cc
 
 at_front : (xs ys : List ℕ) (b : ℕ) → at xs 0 ≡ Some b → at (xs ++ ys) 0 ≡ Some b
-at_front [] ys b e = let z : ◌≡◌ {A = ℕ} 0 1 = cc in absurd (omega arith)
+at_front [] ys b e = absurd cc
 at_front (x ∷ xs) ys b e = e
 
 pub solves_long : (vs : List Variable) → length (solves vs) ≡ length vs
@@ -164,7 +160,7 @@ first_byte g b vs e f = record { byte = byte; variables = length vs; obeyed = ob
             let q : solves vs ≡ s.bytes = found_same (sym (by (length before) true t) ∙ s.finds) in
             ap (λ (z : List ℕ). at z 0) s.put.front ∙ at_front s.bytes (drop (length s.bytes) before) b (ap (λ (z : List ℕ). at z 0) (sym q) ∙ f)
         go false t = let w : unsolved (record { reason = TooFewTruths; place = 0 }) ≡ found s.bytes = sym (by (length before) false t) ∙ s.finds in
-            let z : ◌≡◌ {A = ℕ} 0 1 = cc in absurd (omega arith)
+            absurd cc
 
     obeyed : (before : List ℕ) → length vs ≤ length before → (after : List ℕ) × Solving g before after (Ok (length vs))
     obeyed before l = (
@@ -257,7 +253,7 @@ loaded a f u es h k small t = record {
 
 -- what was expanded is what is held
 expand_from : (a : Alg) (places room : ℕ) (h g : List ℕ) (n : ℕ) (s : System) → expand_on a places room h ≡ made g n → reading a h ≡ got s → expand_system a places room s ≡ made g n
-expand_from a places room [] g n s e p = let z : ◌≡◌ {A = ℕ} 0 1 = cc in absurd (omega arith)
+expand_from a places room [] g n s e p = absurd cc
 expand_from a places room (x ∷ xs) g n s e p = sym (ap (expand_read a places room) p) ∙ e
 
 expanded : (a : Alg) (places : ℕ) (before after : List ℕ) (x : ℕ × ℕ) (es : List Event) (h k : List ℕ) → Makes (expand_on a places (length before) h) before after x.0 x.1 → k ≡ h → Good es h →
@@ -297,9 +293,9 @@ module _ (rules : PassesKeepRules) where
   all_rule = (rules.C, (rules.F, (rules.R, (rules.U, tt))))
 
   moves_letter : (l : ℕ) (a : Alg) (f g : List ℕ) → run_by l a f ≡ wrote g → Moves a f g
-  moves_letter l a [] g e = absurd (clash (Declined BenchEmpty) g e)
+  moves_letter l a [] g e = absurd cc
   moves_letter l a (x ∷ xs) g e = record {
-    not_empty = λ p. let z : ◌≡◌ {A = ℕ} 0 1 = cc in omega arith;
+    not_empty = λ p. cc;
     does = does_lettered passes all_rule l a (x ∷ xs) g e;
   }
 

@@ -1,5 +1,5 @@
 -- The weight of a system is at most the number of bits of its file, and settling keeps the verdict.
-use Rattle.std.proofs.Common.{◌≡◌, ℕ, suc, ◌+◌, ◌/◌, ◌≤◌, Bool, true, false, List, [], ◌∷◌, ◌++◌, map, length, refl, ap, arith, length-append}
+use Rattle.std.proofs.Common.{◌≡◌, ℕ, suc, ◌+◌, ◌/◌, ◌≤◌, List, [], ◌∷◌, ◌++◌, map, length, refl, ap, arith, length-append}
 use Rattle.definitions.specs.Lists.{flat, sum}
 use Rattle.definitions.specs.Bits.{bits}
 use Rattle.definitions.specs.Solution.{Sign, least, greatest}
@@ -7,15 +7,13 @@ use Rattle.definitions.specs.Systems.{Kind, parameter, variable, value, operatio
 use Rattle.definitions.specs.Reading.{Reading, got, bad}
 use Rattle.definitions.specs.ReadSystem.{reading}
 use Rattle.definitions.specs.Written.{kind_bits, term_bits, sign_bits, quantifier_bits, header_bits, occurrence_bits, clause_bits, body_bits, system_bits}
-use Rattle.definitions.specs.Settle.{kind_weight, term_weight, occurrence_weight, clause_weight, false_term, fullness, equation_weight, weight, rounds_for}
+use Rattle.definitions.specs.Settle.{kind_weight, term_weight, occurrence_weight, clause_weight, false_term, equation_weight, weight, rounds_for}
 use Rattle.theorems.specs.SettleLaws.{WeightWithinBits, RoundsWithinLimit, SettlingKeepsVerdict}
 use Rattle.theorems.proofs.PassRules.{passes_rule}
 use Rattle.theorems.proofs.Histories.{moves_settle}
 use Rattle.theorems.proofs.Repack.{whole_forth}
 use Rattle.theorems.proofs.Packs.{bytes_long}
-
-abbrev W : Kind → List ℕ → ℕ
-W k parts = kind_weight k + sum parts
+use Rattle.theorems.proofs.Weights.{W, full_two}
 
 abbrev B : Kind → List (List ℕ) → List ℕ
 B k parts = kind_bits k ++ flat parts
@@ -66,10 +64,6 @@ quantified_bits q = go q.quantifier
     go : (k : Quantifier) → 1 ≤ length (quantifier_bits k ++ bits 4 q.sort)
     go exists = omega arith
     go forall = omega arith
-
-full_two : (b : Bool) → fullness b ≤ 2
-full_two true = omega arith
-full_two false = omega arith
 
 sign_one : (g : Sign) (bs : List ℕ) → length (sign_bits g ++ bs) ≡ suc (length bs)
 sign_one least bs = refl

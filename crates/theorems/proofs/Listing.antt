@@ -1,14 +1,19 @@
 -- Facts of lists, options and tests.
-use Rattle.std.proofs.Common.{◌≡◌, ℕ, zero, suc, ◌+◌, ◌<◌, ◌≤◌, Bool, true, false, ◌&&◌, List, [], ◌∷◌, ◌++◌, map, length, get_or, Some, None, Option, refl, ap, ◌∙◌, subst, ap₂, le_refl, arith}
+use Rattle.std.proofs.Common.{◌≡◌, ℕ, zero, suc, ◌+◌, ◌<◌, ◌≤◌, Bool, true, false, ◌&&◌, eqb, List, [], ◌∷◌, ◌++◌, map, length, get_or, Some, None, Option, refl, ap, ◌∙◌, subst, ap₂, le_refl, arith}
 use mathlib.Core.Bool.{false≢true}
-use Rattle.definitions.specs.Lists.{at, bind, each, some, keep, from, map_from, strike}
+use Rattle.std.proofs.lemmas.Bool.{eqb-true, eq-eqb}
+use Rattle.definitions.specs.Lists.{at, bind, each, same, some, keep, from, map_from, strike}
 use Rattle.definitions.specs.Fits.{Every}
 
 pub none_some : {A : Type 0} {P : Type 0} (x : A) → ◌≡◌ {A = Option A} None (Some x) → P
-none_some x e = let z : ◌≡◌ {A = ℕ} 0 1 = cc in absurd (omega arith)
+none_some x e = absurd cc
 
 pub some_same : {A : Type 0} (x y : A) → ◌≡◌ {A = Option A} (Some x) (Some y) → x ≡ y
 some_same x y e = cc
+
+pub bind_inv : {A B : Type 0} (o : Option A) (g : A → Option B) (y : B) → bind o g ≡ Some y → (x : A) × (o ≡ Some x) × (g x ≡ Some y)
+bind_inv None g y e = none_some y e
+bind_inv (Some x) g y e = (x, refl, e)
 
 pub and_left : (p q : Bool) → (p && q) ≡ true → p ≡ true
 and_left true q h = refl
@@ -23,6 +28,11 @@ pub at_lt : {A : Type 0} (xs : List A) (n : ℕ) (x : A) → at xs n ≡ Some x 
 at_lt [] n x e = none_some x e
 at_lt (y ∷ xs) zero x e = omega arith
 at_lt (y ∷ xs) (suc n) x e = omega (arith, at_lt xs n x e)
+
+pub at_some : {A : Type 0} (xs : List A) (n : ℕ) → n < length xs → (x : A) × (at xs n ≡ Some x)
+at_some [] n h = absurd (omega arith)
+at_some (x ∷ xs) zero h = (x, refl)
+at_some (x ∷ xs) (suc n) h = at_some xs n (omega arith)
 
 pub get_or_some : {A : Type 0} (d : A) (xs : List A) (n : ℕ) (x : A) → at xs n ≡ Some x → get_or xs n d ≡ x
 get_or_some d [] n x e = none_some x e
@@ -77,10 +87,6 @@ pub every_unmapped : {A B : Type 0} (P : B → Type 0) (f : A → B) (xs : List 
 every_unmapped P f [] h = tt
 every_unmapped P f (x ∷ xs) h = (h.0, every_unmapped P f xs h.1)
 
-pub every_append : {A : Type 0} (P : A → Type 0) (xs ys : List A) → Every P xs → Every P ys → Every P (xs ++ ys)
-every_append P [] ys h k = k
-every_append P (x ∷ xs) ys h k = (h.0, every_append P xs ys h.1 k)
-
 pub every_left : {A : Type 0} (P : A → Type 0) (xs ys : List A) → Every P (xs ++ ys) → Every P xs
 every_left P [] ys h = tt
 every_left P (x ∷ xs) ys h = (h.0, every_left P xs ys h.1)
@@ -106,18 +112,25 @@ pub some_map : {A B : Type 0} (p : B → Bool) (g : A → B) (xs : List A) → s
 some_map p g [] = refl
 some_map p g (x ∷ xs) = ap (λ z. elim (p (g x)) [ true ↦ true | false ↦ z ]) (some_map p g xs)
 
-pub some_none : {A : Type 0} (p : A → Bool) (xs : List A) → ((x : A) → p x ≡ false) → some p xs ≡ false
-some_none p [] h = refl
-some_none p (x ∷ xs) h = ap (λ b. elim b [ true ↦ true | false ↦ some p xs ]) (h x) ∙ some_none p xs h
+-- the same numbers
+pub same_eq : (xs ys : List ℕ) → same xs ys ≡ true → xs ≡ ys
+same_eq [] [] h = refl
+same_eq [] (y ∷ ys) h = absurd (false≢true h)
+same_eq (x ∷ xs) [] h = absurd (false≢true h)
+same_eq (x ∷ xs) (y ∷ ys) h = ap₂ (λ u us. u ∷ us) (eqb-true x y (and_left (eqb x y) (same xs ys) h)) (same_eq xs ys (and_right (eqb x y) (same xs ys) h))
+
+pub same_refl : (xs : List ℕ) → same xs xs ≡ true
+same_refl [] = refl
+same_refl (x ∷ xs) = ap₂ (λ p q. p && q) (eq-eqb x x refl) (same_refl xs)
 
 -- lengths
 pub from_long : (k n : ℕ) → length (from k n) ≡ n
 from_long k zero = refl
 from_long k (suc n) = ap suc (from_long (suc k) n)
 
-pub keep_long : {A : Type 0} (q : A → Bool) (xs : List A) → length (keep q xs) ≤ length xs
-keep_long q [] = le_refl 0
-keep_long {A} q (x ∷ xs) = go (keep_long q xs) (q x)
+pub keep_short : {A : Type 0} (q : A → Bool) (xs : List A) → length (keep q xs) ≤ length xs
+keep_short q [] = le_refl 0
+keep_short {A} q (x ∷ xs) = go (keep_short q xs) (q x)
   where
     go : length (keep q xs) ≤ length xs → (b : Bool) → length {A = A} (elim b [ true ↦ x ∷ keep q xs | false ↦ keep q xs ]) ≤ suc (length xs)
     go h true = omega arith

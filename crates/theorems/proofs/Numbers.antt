@@ -10,22 +10,13 @@ use Rattle.definitions.specs.Truth.{Instance}
 use Rattle.definitions.specs.Boolean.{vars, form, same_instance, come, comes, number_in}
 use Rattle.definitions.specs.Fits.{Every}
 use Rattle.definitions.specs.Reach.{ReachedInstance}
-use Rattle.theorems.proofs.Listing.{none_some, some_same, every_at, every_append, every_with, and_left, and_right, at_lt}
+use Rattle.fixpoint.proofs.Pull.{every_append}
+use Rattle.theorems.proofs.Listing.{none_some, some_same, every_at, every_with, and_left, and_right, at_lt, same_eq, same_refl}
 
 abbrev pub Has : {A : Type 0} → List A → A → Type 0
 Has l x = (j : ℕ) × (at l j ≡ Some x)
 
--- the same numbers
-same_eq : (xs ys : List ℕ) → same xs ys ≡ true → xs ≡ ys
-same_eq [] [] h = refl
-same_eq [] (y ∷ ys) h = absurd (false≢true h)
-same_eq (x ∷ xs) [] h = absurd (false≢true h)
-same_eq (x ∷ xs) (y ∷ ys) h = ap₂ (λ u us. u ∷ us) (eqb-true x y (and_left (eqb x y) (same xs ys) h)) (same_eq xs ys (and_right (eqb x y) (same xs ys) h))
-
-same_refl : (xs : List ℕ) → same xs xs ≡ true
-same_refl [] = refl
-same_refl (x ∷ xs) = ap₂ (λ p q. p && q) (eq-eqb x x refl) (same_refl xs)
-
+-- the same instance
 pub instance_eq : (x y : Instance) → same_instance x y ≡ true → x ≡ y
 instance_eq x y h =
     let p : x.0 ≡ y.0 = eqb-true x.0 y.0 (and_left (eqb x.0 y.0) (same x.1 y.1) h) in

@@ -16,7 +16,7 @@ use Rattle.definitions.specs.Reach.{ReachesMark, is_marked, leads_on, ReachedEqu
 use Rattle.theorems.specs.PassLaws.{RKeepsWhatReachesAMark, UKeepsWhatIsReached, UKeepsTruths}
 use Rattle.fixpoint.proofs.Rounds.{pick}
 use Rattle.theorems.proofs.Closing.{times_iter}
-use Rattle.theorems.proofs.Listing.{get_or_some, every_at, at_map_some, at_mapped, from_long, at_lt}
+use Rattle.theorems.proofs.Listing.{at_some, get_or_some, every_at, at_map_some, at_mapped, from_long, at_lt}
 use Rattle.theorems.proofs.Marks.{bit, needed_closed, get_or_from, true_low}
 use Rattle.theorems.proofs.KeepsU.{strike_some, reached_closed, truth_kept}
 
@@ -163,14 +163,9 @@ reached a s fit j = (
 pub u_truths : UKeepsTruths
 u_truths a law s fit x r =
     let k : get_or (reachable s) x.0 false ≡ true = reaching_reached a s fit r in
-    let (e, p) = there s.equations x.0 (reached_low r) in
+    let (e, p) = at_some s.equations x.0 (reached_low r) in
     truth_kept a s fit x e p k
   where
     reached_low : {j : ℕ} → ReachedEquation s j → j < length s.equations
     reached_low is_start = let (q, eq, eh) = at_map_some header_of s.equations s.start fit.header fit.there in at_lt s.equations s.start q eq
     reached_low (is_called {i} e o p m r) = target_low a s fit i e p o m
-
-    there : {A : Type 0} (xs : List A) (n : ℕ) → n < length xs → (y : A) × (at xs n ≡ Some y)
-    there [] n l = absurd (omega arith)
-    there (y ∷ xs) zero l = (y, refl)
-    there (y ∷ xs) (suc n) l = there xs n (omega arith)

@@ -12,10 +12,10 @@ use Rattle.definitions.specs.Reading.{Step, next, stop, Reader, Reading, got, ba
 use Rattle.definitions.specs.ReadSystem.{reading, read_system}
 use Rattle.definitions.specs.Written.{system_bits, written}
 use Rattle.definitions.specs.Fits.{Every, SystemFits}
-use Rattle.theorems.proofs.Fields.{stands_join, field_stands}
+use Rattle.theorems.proofs.Fields.{stands_most, stands_join, field_stands}
 use Rattle.theorems.proofs.Packs.{bits_of, bit_in, bits_long, bytes_bits, bytes_long, pad_long, pad, bits_zero, pad_none, number_below, every_drop}
 use Rattle.theorems.proofs.Whole.{system_bits_lem}
-use Rattle.theorems.proofs.Sounds.{sound_system, stands_most}
+use Rattle.theorems.proofs.Sounds.{sound_system}
 
 -- lists of one length with the same members
 same_list : (xs ys : List ℕ) → length xs ≡ length ys → ((k : ℕ) → k < length xs → get_or xs k 0 ≡ get_or ys k 0) → xs ≡ ys
@@ -80,15 +80,15 @@ ended_got {A} n r f x = start (eqb (length f) 0 || ltb n (length f))
     last y q e true e₁ true e₂ h =
         let ex : y ≡ x = cc in
         (q, e ∙ ap (λ z. next z q) ex, leb-true (8 * length f - q) 7 e₁, eqb-true (field f q (8 * length f - q)) 0 e₂)
-    last y q e true e₁ false e₂ h = let z : ◌≡◌ {A = ℕ} 0 1 = cc in absurd (omega arith)
-    last y q e false e₁ c e₂ h = let z : ◌≡◌ {A = ℕ} 0 1 = cc in absurd (omega arith)
+    last y q e true e₁ false e₂ h = absurd cc
+    last y q e false e₁ c e₂ h = absurd cc
 
     middle : (z : Step A) → r f 0 ≡ z → ended (follow z (λ y q. follow (ending f q) (λ _ m. next y m))) ≡ got x → Result
-    middle (stop w q) e h = let z : ◌≡◌ {A = ℕ} 0 1 = cc in absurd (omega arith)
+    middle (stop w q) e h = absurd cc
     middle (next y q) e h = last y q e (leb (8 * length f - q) 7) refl (eqb (field f q (8 * length f - q)) 0) refl h
 
     start : (b : Bool) → elim b as (λ _. Reading A) [ true ↦ bad BadLength 0 | false ↦ ended (complete r f 0) ] ≡ got x → Result
-    start true h = let z : ◌≡◌ {A = ℕ} 0 1 = cc in absurd (omega arith)
+    start true h = absurd cc
     start false h = middle (r f 0) refl h
 
 pub whole_forth : (a : Alg) → Lawful a → (f : List ℕ) → Every (λ x. x < 256) f → (s : System) → reading a f ≡ got s → (written s ≡ f) × SystemFits a s

@@ -1,6 +1,5 @@
 -- Settling always has one answer, in a round that the weight limits.
-use Rattle.std.proofs.Common.{◌≡◌, ℕ, zero, suc, ◌+◌, ◌<◌, ◌≤◌, Bool, true, false, ◌&&◌, eqb, leb, ◌⊎◌, List, [], ◌∷◌, length, Ok, Err, Result, sym, refl, ap, ◌∙◌, subst, ap₂, inl, inr, arith, eq-eqb, eqb-true, leb-false, leb-true}
-use Rattle.std.proofs.lemmas.Bool.{and_parts}
+use Rattle.std.proofs.Common.{◌≡◌, ℕ, zero, suc, ◌+◌, ◌<◌, ◌≤◌, Bool, true, false, eqb, leb, ◌⊎◌, List, [], ◌∷◌, length, Ok, Err, Result, sym, refl, ap, ◌∙◌, subst, inl, inr, arith, eqb-true, leb-false, leb-true}
 use Rattle.definitions.specs.Lists.{same}
 use Rattle.definitions.specs.Alg.{Alg, Lawful}
 use Rattle.definitions.specs.Systems.{System}
@@ -14,11 +13,11 @@ use Rattle.definitions.specs.Settle.{Pass, Ran, wrote, refused, ran_on, run, pas
 use Rattle.definitions.specs.Calls.{Bytes, Settles, equal, again, Stops, here, later, empty_halt, Halts, Settling}
 use Rattle.faults.specs.declared.Reason.{Reason}
 use Rattle.faults.specs.declared.Reason.TheVariants.{BadLength}
-use Rattle.faults.specs.declared.PassFault.{PassFault}
 use Rattle.faults.specs.declared.PassFault.TheVariants.{Reading as Unread}
 use Rattle.faults.specs.declared.SettleFault.{SettleFault}
 use Rattle.faults.specs.declared.Halt.{Halt}
 use Rattle.theorems.specs.SettleLaws.{told, Answered, SettlingEnds, OneSettledAnswer, SettleComputes}
+use Rattle.theorems.proofs.Listing.{same_eq, same_refl}
 use Rattle.theorems.proofs.Whole.{whole_back}
 use Rattle.theorems.proofs.Repack.{whole_forth}
 use Rattle.theorems.proofs.PassRules.{passes_rule}
@@ -49,7 +48,7 @@ module _ (a : Alg) (law : Lawful a) where
           let w = fitted_short (written (m.1 a s)) k (sym (ap (ran_on m.1 a) i.reads) ∙ p) in
           let fit = rs.0.fits a law s i.fits in
           h k e (record { reads = ap (reading a) (sym w.1) ∙ whole_back a (m.1 a s) fit w.0; fits = fit; file = w.1 })
-      go h (refused x) p e = let z : ◌≡◌ {A = ℕ} 0 1 = cc in absurd (omega arith)
+      go h (refused x) p e = absurd cc
 
   abbrev Done : ℕ → List ℕ → ℕ → Type 0
   Done k f m = ((n : ℕ) × (g : List ℕ) × Settles a k f n g × (n ≤ m)) ⊎ ((x : Halt) × Stops a k f x × (x.round ≤ m))
@@ -105,9 +104,6 @@ settle_answers a law (x ∷ xs) b = go (reading a (x ∷ xs)) refl
 ended_same : {f g : List ℕ} → ended f ≡ ended g → f ≡ g
 ended_same e = cc
 
-ended_failed : {f : List ℕ} {x : PassFault} {l : ℕ} → ended f ≡ failed x l → ⊥
-ended_failed e = let z : ◌≡◌ {A = ℕ} 0 1 = cc in omega arith
-
 settles_one : (a : Alg) {k m n : ℕ} {f g h : List ℕ} → Settles a k f m g → Settles a k f n h → (g ≡ h) × (m ≡ n)
 settles_one a (equal e) (equal d) = (refl, refl)
 settles_one a (equal e) (again g d q t) = absurd (q (ended_same (sym d ∙ e)))
@@ -119,14 +115,14 @@ stops_one a {k} (here x l e) (here x' l' d) = failed_same (sym e ∙ d)
   where
     failed_same : failed x l ≡ failed x' l' → ◌≡◌ {A = Halt} (record { fault = x; letter = l; round = k }) (record { fault = x'; letter = l'; round = k })
     failed_same e = cc
-stops_one a (here x l e) (later g d q t) = absurd (ended_failed (sym d ∙ e))
-stops_one a (later g e p s) (here x l d) = absurd (ended_failed (sym e ∙ d))
+stops_one a (here x l e) (later g d q t) = absurd cc
+stops_one a (later g e p s) (here x l d) = absurd cc
 stops_one a {k} {x = x} (later g e p s) (later i d q t) = stops_one a (subst (λ (f : List ℕ). Stops a (suc k) f x) (ended_same (sym e ∙ d)) s) t
 
 not_both : (a : Alg) {k n : ℕ} {f g : List ℕ} {x : Halt} → Settles a k f n g → Stops a k f x → ⊥
-not_both a (equal e) (here x l d) = ended_failed (sym e ∙ d)
+not_both a (equal e) (here x l d) = cc
 not_both a (equal e) (later g d q t) = q (ended_same (sym d ∙ e))
-not_both a (again g e p s) (here x l d) = ended_failed (sym e ∙ d)
+not_both a (again g e p s) (here x l d) = cc
 not_both a {k} {n} {g = h} (again g e p s) (later i d q t) = not_both a (subst (λ (f : List ℕ). Settles a (suc k) f n h) (ended_same (sym e ∙ d)) s) t
 
 not_empty : (a : Alg) {k n : ℕ} {g : List ℕ} → Settles a k [] n g → ⊥
@@ -147,22 +143,11 @@ settle_one a f g h (Err x) (Ok n) s t = absurd (not_halted a f h n x.halt t s.wh
 settle_one a f g h (Err x) (Err y) s t = (s.kept ∙ sym t.kept, ap (λ (z : Halt). Err (record { halt = z })) (halts_one a f x.halt y.halt s.why t.why))
 
 -- the function of rounds
-same_refl : (xs : List ℕ) → same xs xs ≡ true
-same_refl [] = refl
-same_refl (x ∷ xs) = ap₂ (λ p q. p && q) (eq-eqb x x refl) (same_refl xs)
-
-same_true : (xs ys : List ℕ) → same xs ys ≡ true → xs ≡ ys
-same_true [] [] e = refl
-same_true [] (y ∷ ys) e = let z : ◌≡◌ {A = ℕ} 0 1 = cc in absurd (omega arith)
-same_true (x ∷ xs) [] e = let z : ◌≡◌ {A = ℕ} 0 1 = cc in absurd (omega arith)
-same_true (x ∷ xs) (y ∷ ys) e =
-    let (p, q) = and_parts (eqb x y) (same xs ys) e in ap₂ (λ x xs. x ∷ xs) (eqb-true x y p) (same_true xs ys q)
-
 same_false : (xs ys : List ℕ) → (ys ≡ xs → ⊥) → same xs ys ≡ false
 same_false xs ys d = go (same xs ys) refl
   where
     go : (b : Bool) → same xs ys ≡ b → same xs ys ≡ false
-    go true e = absurd (d (sym (same_true xs ys e)))
+    go true e = absurd (d (sym (same_eq xs ys e)))
     go false e = e
 
 -- what a round's end makes of the rest

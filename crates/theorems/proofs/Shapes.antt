@@ -10,7 +10,7 @@ use Rattle.definitions.specs.Truth.{Instance, meant}
 use Rattle.definitions.specs.Boolean.{Form, known, all, any, var, Forms, nil, cons, forms, count, vars, vars_all, renamed, renamed_all, over, spread, all_of, clause_form, inside_form, equation_form, form, number_in, Variable, sign_at, variable_of}
 use Rattle.definitions.specs.Fits.{Every, SortFits, header_of, ClauseFits, SystemFits}
 use Rattle.definitions.specs.FileFits.{FormFits, fit_known, fit_all, fit_any, fit_var, FormsFit, fit_nil, fit_cons, BooleanFits}
-use Rattle.theorems.proofs.Listing.{every_at, every_mapped, every_with, every_of, every_keep, every_left, every_right, at_lt, from_long, keep_long}
+use Rattle.theorems.proofs.Listing.{every_at, every_mapped, every_with, every_of, every_keep, every_left, every_right, at_lt, from_long, keep_short}
 use Rattle.theorems.proofs.Ranges.{size_range}
 use Rattle.theorems.specs.PassLaws.{InRange}
 use Rattle.theorems.proofs.Tokens.{header_at, body_at}
@@ -92,7 +92,7 @@ module _ (a : Alg) (law : Lawful a) where
         go : (b : Bool) → Shape {I = Instance} (suc (suc (suc d))) (elim b [ true ↦ all_of (map (clause_form a ps vs) (keep (λ (c : Clause). holds a ps vs c.guard) e.clauses)) | false ↦ known false ])
         go true =
             all_of_shape (suc (suc d)) (map (clause_form a ps vs) (keep (λ (c : Clause). holds a ps vs c.guard) e.clauses))
-            (rw length-map (let k : length (keep (λ (c : Clause). holds a ps vs c.guard) e.clauses) ≤ length e.clauses = keep_long (λ (c : Clause). holds a ps vs c.guard) e.clauses in omega arith))
+            (rw length-map (let k : length (keep (λ (c : Clause). holds a ps vs c.guard) e.clauses) ≤ length e.clauses = keep_short (λ (c : Clause). holds a ps vs c.guard) e.clauses in omega arith))
             (every_mapped (Shape (suc (suc d))) (clause_form a ps vs) (keep (λ (c : Clause). holds a ps vs c.guard) e.clauses)
             (every_keep (λ c. Shape (suc (suc d)) (clause_form a ps vs c)) (λ (c : Clause). holds a ps vs c.guard) e.clauses
             (every_with (λ (c : Clause). (1 ≤ length c.occurrences) × (length c.occurrences ≤ 8)) (λ c. Shape (suc (suc d)) (clause_form a ps vs c)) e.clauses h

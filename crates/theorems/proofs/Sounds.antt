@@ -1,7 +1,7 @@
 -- What readers have read stands in the file, joined.
 use Rattle.faults.specs.declared.Reason.{Reason}
 use Rattle.faults.specs.declared.Reason.TheVariants.{NoEquations, NoSuchSort, NoSuchName, ValueTooLarge}
-use Rattle.std.proofs.Common.{◌≡◌, ℕ, zero, suc, ◌+◌, ◌-◌, ◌*◌, ◌^◌, ◌<◌, ◌≤◌, Bool, true, false, ltb, List, [], ◌∷◌, ◌++◌, map, length, Some, None, Option, sym, refl, ap, ◌∙◌, subst, ap₂, add-zero, arith, length-append}
+use Rattle.std.proofs.Common.{◌≡◌, ℕ, zero, suc, ◌+◌, ◌-◌, ◌*◌, ◌^◌, ◌<◌, ◌≤◌, Bool, true, false, ltb, List, [], ◌∷◌, ◌++◌, map, length, Some, Option, sym, refl, ap, ◌∙◌, subst, ap₂, add-zero, arith, length-append}
 use lib.ListN.{length-map}
 use Rattle.std.proofs.lemmas.Bool.{ltb-true}
 use Rattle.definitions.specs.Lists.{at, bind, flat}
@@ -10,14 +10,12 @@ use Rattle.definitions.specs.Alg.{Alg, Lawful}
 use Rattle.definitions.specs.Systems.{Quantified, Term, Equation}
 use Rattle.definitions.specs.Reading.{Step, next, stop, Reader, take, take_for, follow, give, given, fail, here, below, one_by_one, repeated, ◌>>=◌, ◌>>◌, must}
 use Rattle.definitions.specs.ReadSystem.{Scope, Sorted, Header, scope, sign_of, quantifier_of, read_sort, read_quantified, read_header, read_target, read_of, read_occurrence, read_clause, read_body, read_value_of, read_system, read_term}
-use Rattle.definitions.specs.Written.{term_bits, sign_bits, quantifier_bits, header_bits, occurrence_bits, clause_bits, body_bits, system_bits}
+use Rattle.definitions.specs.Written.{term_bits, sign_bits, quantifier_bits, occurrence_bits, clause_bits, body_bits, system_bits}
 use Rattle.definitions.specs.Fits.{Fits, Every, SortFits, HeaderFits, header_of, TermsFit, ValuesFit, OccurrenceFits, ClauseFits, BodyFits, SystemFits}
-use Rattle.theorems.proofs.Fields.{stands_join, took, given_inv, below_inv}
+use Rattle.theorems.proofs.Fields.{stands_most, stands_join, took, given_inv, below_inv}
 use Rattle.theorems.proofs.Forth.{sound}
-
-pub stands_most : (f : List ℕ) (p : ℕ) (bs : List ℕ) → Stands f p bs → p + length bs ≤ 8 * length f
-stands_most f p [] h = omega arith
-stands_most f p (b ∷ bs) h = omega (arith, stands_most f (suc p) bs h.1)
+use Rattle.theorems.proofs.Goods.{bits_long, head_bits, heads_same}
+use Rattle.theorems.proofs.Listing.{some_same, bind_inv}
 
 -- what was read from p to q, and its bits
 pub record Came (f : List ℕ) (p q : ℕ) {A : Type 0} (R : A → List ℕ → Type 0) (x : A) : Type 0 where
@@ -30,7 +28,7 @@ pub record Sound (f : List ℕ) {A : Type 0} (r : Reader A) (R : A → List ℕ 
   pub run : (p : ℕ) → p ≤ 8 * length f → (x : A) (q : ℕ) → r f p ≡ next x q → Came f p q R x
 
 infixr 30 ◌⊕◌
-◌⊕◌ : {b c d e : List ℕ} → b ≡ c → d ≡ e → b ++ d ≡ c ++ e
+pub ◌⊕◌ : {b c d e : List ℕ} → b ≡ c → d ≡ e → b ++ d ≡ c ++ e
 p ⊕ q = ap₂ (λ u v. u ++ v) p q
 
 pub sign_same : (n : ℕ) → n < 2 → bits 1 n ≡ sign_bits (sign_of n)
@@ -49,7 +47,7 @@ module _ (f : List ℕ) where
   sound_then {A} {B} m k {R} T s t = record { run = λ p l y q e. go p y q l (m f p) refl e }
     where
       go : (p : ℕ) (y : B) (q : ℕ) → p ≤ 8 * length f → (z : Step A) → m f p ≡ z → follow z (λ x n. k x f n) ≡ next y q → Came f p q T y
-      go p y q l (stop r n) e h = let z : ◌≡◌ {A = ℕ} 0 1 = cc in absurd (omega arith)
+      go p y q l (stop r n) e h = absurd cc
       go p y q l (next x n) e h =
           let c = s.run p l x n e in
           let d = (t x c.its c.fact).run n (subst (λ m. m ≤ 8 * length f) (sym c.behind) (stands_most f p c.its c.stands)) y q h in
@@ -65,7 +63,7 @@ module _ (f : List ℕ) where
   sound_last {A} {B} m g {R} T s t = record { run = λ p l y q e. go p y q l (m f p) refl e }
     where
       go : (p : ℕ) (y : B) (q : ℕ) → p ≤ 8 * length f → (z : Step A) → m f p ≡ z → follow z (λ x n. next (g x) n) ≡ next y q → Came f p q T y
-      go p y q l (stop r n) e h = let z : ◌≡◌ {A = ℕ} 0 1 = cc in absurd (omega arith)
+      go p y q l (stop r n) e h = absurd cc
       go p y q l (next x n) e h =
           let c = s.run p l x n e in
           let ey : g x ≡ y = cc in
@@ -75,19 +73,15 @@ module _ (f : List ℕ) where
   pub sound_take : (w : ℕ) → Sound f (take w) (λ v bs. (bs ≡ bits w v) × (v < 2 ^ w))
   sound_take w = record {
     run = λ p l x q e. let t = took f p w x q e in
-        record { its = bits w x; fact = (refl, t.small); stands = t.stands; behind = t.behind ∙ ap (λ n. p + n) (sym (long w x)) };
+        record { its = bits w x; fact = (refl, t.small); stands = t.stands; behind = t.behind ∙ ap (λ n. p + n) (sym (bits_long w x)) };
   }
-    where
-      long : (w v : ℕ) → length (bits w v) ≡ w
-      long zero v = refl
-      long (suc w) v = ap suc (long w _)
 
   pub sound_must : {B : Type 0} (k : Reader B) (t : Bool) (r : Reason) (q : ℕ) {T : B → List ℕ → Type 0} → (t ≡ true → Sound f k T) → Sound f (must t r q >> k) T
   sound_must k true r q s = record { run = (s refl).run }
-  sound_must k false r q s = record { run = λ p l x q e. let z : ◌≡◌ {A = ℕ} 0 1 = cc in absurd (omega arith) }
+  sound_must k false r q s = record { run = λ p l x q e. absurd cc }
 
   pub sound_fail : {A : Type 0} (r : Reason) (q : ℕ) {T : A → List ℕ → Type 0} → Sound f (fail r q) T
-  sound_fail r q = record { run = λ p l x n e. let z : ◌≡◌ {A = ℕ} 0 1 = cc in absurd (omega arith) }
+  sound_fail r q = record { run = λ p l x n e. absurd cc }
 
   pub sound_here : {A : Type 0} (k : ℕ → Reader A) {T : A → List ℕ → Type 0} → ((p : ℕ) → Sound f (k p) T) → Sound f (here >>= k) T
   sound_here k h = record { run = λ p l x q e. (h p).run p l x q e }
@@ -108,7 +102,7 @@ module _ (f : List ℕ) where
   sound_for {A} w what r = record { run = λ p l y q e. go p y q l (take w f p) refl e }
     where
       go : (p : ℕ) (y : A) (q : ℕ) → p ≤ 8 * length f → (z : Step ℕ) → take w f p ≡ z → follow z (λ v n. given (what v) r p f n) ≡ next y q → Came f p q (For w what) y
-      go p y q l (stop t n) e h = let z : ◌≡◌ {A = ℕ} 0 1 = cc in absurd (omega arith)
+      go p y q l (stop t n) e h = absurd cc
       go p y q l (next v n) e h =
           let g = given_inv (what v) r p f n y q h in
           let c = (sound_take w).run p l v n e in
@@ -152,30 +146,18 @@ module _ (f : List ℕ) where
   sound_map r s t = record { run = λ p l x q e. let c = s.run p l x q e in record { its = c.its; fact = t x c.its c.fact; stands = c.stands; behind = c.behind } }
 
   module _ (a : Alg) (law : Lawful a) where
-    size_inv : {A B : Type 0} (o : Option A) (g : A → Option B) (y : B) → bind o g ≡ Some y → (z : A) × (o ≡ Some z) × (g z ≡ Some y)
-    size_inv None g y e = let z : ◌≡◌ {A = ℕ} 0 1 = cc in absurd (omega arith)
-    size_inv (Some z) g y e = (z, refl, e)
-
-    same_some : {A : Type 0} (x y : A) → Some x ≡ Some y → x ≡ y
-    same_some x y e = cc
-
     sound_sort : Sound f (read_sort a) (λ s bs. (bs ≡ bits 4 s) × SortFits a s)
     sound_sort = sound_map (read_sort a) (sound_for 4 (λ s. bind (a.size s) (λ _. Some s)) NoSuchSort) fact
       where
         fact : (s : ℕ) (bs : List ℕ) → For 4 (λ s. bind (a.size s) (λ _. Some s)) s bs → (bs ≡ bits 4 s) × SortFits a s
         fact s bs w =
-            let (z, e₁, e₂) = size_inv (a.size w.0) (λ _. Some w.0) s w.3 in
-            subst (λ n. (bs ≡ bits 4 n) × SortFits a n) (same_some w.0 s e₂) (w.1, (w.2, (z, e₁)))
+            let (z, e₁, e₂) = bind_inv (a.size w.0) (λ _. Some w.0) s w.3 in
+            subst (λ n. (bs ≡ bits 4 n) × SortFits a n) (some_same w.0 s e₂) (w.1, (w.2, (z, e₁)))
 
     sound_quantified : Sound f (read_quantified a) (λ (q : Quantified) bs. (bs ≡ quantifier_bits q.quantifier ++ bits 4 q.sort) × SortFits a q.sort)
     sound_quantified =
         sound_then _ _ _ (sound_take 1) (λ k b₁ r₁.
         sound_last _ (λ s. record { quantifier = quantifier_of k; sort = s }) _ sound_sort (λ s b₂ r₂. ((r₁.0 ∙ quantifier_same k r₁.1) ⊕ r₂.0, r₂.1)))
-
-    abbrev head_bits : Header → List ℕ
-    head_bits e =
-        sign_bits e.sign ++ (bits 4 (length e.sorts) ++ (flat (map (bits 4) e.sorts) ++
-        (bits 2 (length e.quantified) ++ flat (map (λ (q : Quantified). quantifier_bits q.quantifier ++ bits 4 q.sort) e.quantified))))
 
     sound_header : Sound f (read_header a) (λ h bs. (bs ≡ head_bits h) × HeaderFits a h)
     sound_header =
@@ -200,8 +182,8 @@ module _ (f : List ℕ) where
       where
         fact : (t : ℕ × Header) (bs : List ℕ) → For 5 (λ i. bind (at hs i) (λ h. Some (i, h))) t bs → (bs ≡ bits 5 t.0) × (t.0 < 32) × (at hs t.0 ≡ Some t.1)
         fact t bs w =
-            let (h, e₁, e₂) = size_inv (at hs w.0) (λ h. Some (w.0, h)) t w.3 in
-            subst (λ (u : ℕ × Header). (bs ≡ bits 5 u.0) × (u.0 < 32) × (at hs u.0 ≡ Some u.1)) (same_some (w.0, h) t e₂) (w.1, w.2, e₁)
+            let (h, e₁, e₂) = bind_inv (at hs w.0) (λ h. Some (w.0, h)) t w.3 in
+            subst (λ (u : ℕ × Header). (bs ≡ bits 5 u.0) × (u.0 < 32) × (at hs u.0 ≡ Some u.1)) (some_same (w.0, h) t e₂) (w.1, w.2, e₁)
 
     sound_term : (c : Scope) (s : ℕ) → Sound f (read_of a c s) (λ t bs. (bs ≡ term_bits t) × Fits a c 32 s t)
     sound_term c s = sound_last (read_term a c 32 (Some s)) (λ (x : Sorted). x.the_term) _ plain (λ x bs h. h)
@@ -233,7 +215,7 @@ module _ (f : List ℕ) where
       where
         fact : (v : ℕ) (bs : List ℕ) → For 8 (λ v. bind (a.size s) (λ z. below z v)) v bs → (bs ≡ bits 8 v) × ValueFits s v
         fact v bs w =
-            let (z, e₁, e₂) = size_inv (a.size s) (λ z. below z w.0) v w.3 in
+            let (z, e₁, e₂) = bind_inv (a.size s) (λ z. below z w.0) v w.3 in
             let (e, l) = below_inv z w.0 v e₂ in
             subst (λ n. (bs ≡ bits 8 n) × ValueFits s n) e (w.1, (w.2, (z, e₁, l)))
 
@@ -270,10 +252,6 @@ module _ (f : List ℕ) where
       bodies (k ∷ ks) [] h = absurd h
       bodies (k ∷ ks) (e ∷ es) h =
           let (p, q) = bodies ks es h.1 in (ap₂ (λ x xs. x ∷ xs) h.0.0 p, (h.0.1, q))
-
-    heads_same : (es : List Equation) → flat (map head_bits (map header_of es)) ≡ flat (map header_bits es)
-    heads_same [] = refl
-    heads_same (e ∷ es) = ap (λ bs. header_bits e ++ bs) (heads_same es)
 
     pub sound_system : Sound f (read_system a) (λ s bs. (bs ≡ system_bits s) × SystemFits a s)
     sound_system =

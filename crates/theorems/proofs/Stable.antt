@@ -10,7 +10,7 @@ use Rattle.definitions.specs.Constants.{Known, Knowledge, agreed, agreed_all, Br
 use Rattle.theorems.specs.KnowledgeLaws.{arities, Shaped}
 use Rattle.definitions.specs.Fits.{Every}
 use Rattle.theorems.proofs.Knows.{Under, same, unknown, Unders, Reached, not_yet, already, Belows, Met, All, trans_unders, from_unders}
-use Rattle.theorems.proofs.Listing.{every_append}
+use Rattle.fixpoint.proofs.Pull.{every_append}
 
 -- knowledge of the right shape
 pub data Shape : List ℕ → Knowledge → Type 0 where
@@ -122,7 +122,7 @@ some_eq : (m n : ℕ) → Some m ≡ Some n → m ≡ n
 some_eq m n e = cc
 
 pub learns : (j : ℕ) (xs : Known) {ns : List ℕ} {K : Knowledge} → Shape ns K → at ns j ≡ Some (length xs) → Learnt ns K j xs
-learns j xs nil e = let z : ◌≡◌ {A = ℕ} 0 1 = cc in absurd (omega arith)
+learns j xs nil e = absurd cc
 learns zero xs (new {n} {ns} {K} s) e =
     record {
       shape = subst (λ m. Shape (m ∷ ns) (Some xs ∷ K)) (sym (some_eq n (length xs) e)) (old xs s);
@@ -142,8 +142,8 @@ learns (suc j) xs (old ks s) e =
     let r = learns j xs s e in record { shape = old ks r.shape; up = Belows.cons (already (unders_refl ks)) r.up; met = r.met }
 
 pub met_up : (j : ℕ) (xs zs : Known) {K L : Knowledge} → Belows K L → at K j ≡ Some (Some zs) → Unders xs zs → Met L (j, xs)
-met_up j xs zs Belows.nil e h = let z : ◌≡◌ {A = ℕ} 0 1 = cc in absurd (omega arith)
-met_up zero xs zs (Belows.cons not_yet us) e h = let z : ◌≡◌ {A = ℕ} 0 1 = cc in absurd (omega arith)
+met_up j xs zs Belows.nil e h = absurd cc
+met_up zero xs zs (Belows.cons not_yet us) e h = absurd cc
 met_up zero xs zs (Belows.cons (already {xs = ws} {ys} u) us) e h =
     let ew : ws ≡ zs = cc in (ys, refl, trans_unders h (subst (λ v. Unders v ys) ew u))
 met_up (suc j) xs zs (Belows.cons u us) e h = met_up j xs zs us e h

@@ -68,11 +68,8 @@ first_of : (a : Alg) → Lawful a → (es : List Event) (h : List ℕ) → Past 
     SystemFits a s × ((g : List ℕ) → Wrote g es → FirstByte g (truth (verdict a s)))
 first_of a law es h p f v s e =
     let x = (good passes_rule es h p).kept a law f v in
-    let w : x.first ≡ s = got_same (sym x.loaded ∙ e) in
+    let w : x.first ≡ s = cc in
     (subst (SystemFits a) w x.began, λ g y. subst (FirstByte g) (ap (λ (s : System). truth (verdict a s)) w) (x.solved g y))
-  where
-    got_same : {x y : System} → got x ≡ got y → x ≡ y
-    got_same e = cc
 
 pub alike : HistoriesAlike
 alike a law es ds h k p q f g v w s t e i l =

@@ -10,6 +10,7 @@ use Rattle.definitions.specs.Terms.{on_parameter, replaced, truth_term, on_occur
 use Rattle.definitions.specs.Constants.{Known, kind_for, bare, inserted, unknown_of, pass_c, least_knowledge}
 use Rattle.definitions.specs.Passes.{folded, foldeds, folded_as, folded_equation, pass_f, needed, pass_r, renamed, reachable, pass_u}
 use Rattle.definitions.specs.Settle.{kind_weight, term_weight, occurrence_weight, clause_weight, false_term, fullness, equation_weight, weight}
+use Rattle.theorems.proofs.KeepsF.{opened}
 use Rattle.theorems.proofs.Listing.{every_map, every_at, every_two, at_map_some, get_or_some, at_map_from, at_lt}
 use Rattle.theorems.proofs.FitShapes.{values_long, terms_long}
 use Rattle.theorems.proofs.Cut.{OnKinds, OnAll, OnParameters, on_map, fits_scoped, terms_fit}
@@ -279,19 +280,6 @@ module _ (a : Alg) (hs : List Header) (c : Scope) where
       (folded_stays a c fit.guard (omega (arith, m, l)))
       (map_same (on_occurrence (λ j ts. ts) folded_term) k.occurrences (every_two k.occurrences folded_occurrence fit.fit
       (map_tight occurrence_weight (on_occurrence (λ j ts. ts) folded_term) below k.occurrences (omega (arith, folded_le k.guard a, l)))))
-
-abbrev still_there : Alg → Clause → Bool
-still_there a c = flip (is_false (known a [] c.guard))
-
-abbrev opened : Alg → Equation → Equation
-opened a e =
-    record {
-      sign = e.sign;
-      sorts = e.sorts;
-      quantified = e.quantified;
-      h = folded e.h a;
-      clauses = map (on_clause (λ j ts. ts) (λ t. folded t a)) (keep (λ (c : Clause). flip (is_false (known a [] c.guard))) e.clauses);
-    }
 
 opened_stays : (a : Alg) (hs : List Header) (e : Equation) → BodyFits a hs e → equation_weight e ≤ equation_weight (opened a e) → opened a e ≡ e
 opened_stays a hs e body l =

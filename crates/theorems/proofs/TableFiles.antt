@@ -11,10 +11,10 @@ use Rattle.definitions.specs.Reading.{Reader, next, take, take_for, below, repea
 use Rattle.definitions.specs.Tables.{TableOp, Table, read_size, read_sizes, read_sort, read_op, read_table, op_bits, table_bits, table_written}
 use Rattle.theorems.specs.FileLaws.{TablesReadBack, TablesWrittenBack}
 use Rattle.theorems.proofs.Listing.{none_some, some_same, every_with}
-use Rattle.theorems.proofs.Fields.{below_some, below_inv}
+use Rattle.theorems.proofs.Fields.{stands_most, below_some, below_inv}
 use Rattle.theorems.proofs.Packs.{packs}
 use Rattle.theorems.proofs.Goods.{Good, good_then, good_last, good_take, good_for, good_must, good_here, good_repeated}
-use Rattle.theorems.proofs.Sounds.{Sound, sound_then, sound_last, sound_take, sound_for, sound_must, sound_here, sound_repeated, sound_map, stands_most}
+use Rattle.theorems.proofs.Sounds.{Sound, sound_then, sound_last, sound_take, sound_for, sound_must, sound_here, sound_repeated, sound_map}
 use Rattle.theorems.proofs.Whole.{Bits, join, number_bits, flat_bits, ends, file_got}
 use Rattle.theorems.proofs.Repack.{repacked, ended_got}
 

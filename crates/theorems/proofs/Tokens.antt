@@ -10,7 +10,8 @@ use Rattle.definitions.specs.Boolean.{Form, known, var, forms, vars, vars_all, o
 use Rattle.definitions.specs.Fits.{Every, SortFits, HeaderFits, header_of, OccurrenceFits, ClauseFits, BodyFits, SystemFits}
 use Rattle.theorems.specs.PassLaws.{InRange}
 use Rattle.theorems.specs.Evaluation.{Ranges}
-use Rattle.theorems.proofs.Listing.{every_at, every_unmapped, every_mapped, every_with, every_append, every_keep, at_map_some}
+use Rattle.fixpoint.proofs.Pull.{every_append}
+use Rattle.theorems.proofs.Listing.{every_at, every_unmapped, every_mapped, every_with, every_keep, at_map_some}
 use Rattle.theorems.proofs.Ranges.{ranges_snoc, values_low, arguments_low}
 
 module _ {I : Type 0} (P : I → Type 0) where

@@ -1,5 +1,5 @@
 use Rattle.theorems.proofs.calls_extend_histories.Goals as goal
-use Rattle.theorems.proofs.Answerables.{calls_follow}
+use Rattle.theorems.proofs.Main.{follows}
 
 pub returns : goal.returns
-returns _ = calls_follow
+returns _ = follows
