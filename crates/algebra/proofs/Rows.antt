@@ -17,12 +17,12 @@ for_inv {X = X} w what r f p x q e = go (leb (p + w) (8 * length f)) refl e
   where
     there : (o : Option X) → next x q ≡ given o r p f (p + w) → (o ≡ Some x) × (q ≡ p + w)
     there (Some y) e = (cc, cc)
-    there None e = let z : ◌≡◌ {A = ℕ} 0 1 = cc in absurd (omega arith)
+    there None e = absurd cc
 
     go : (b : Bool) → leb (p + w) (8 * length f) ≡ b → next x q ≡ follow (elim b [ true ↦ next (field f p w) (p + w) | false ↦ stop EndsInField p ]) (λ n t. given (what n) r p f t) →
         (what (field f p w) ≡ Some x) × (q ≡ p + w) × (p + w ≤ 8 * length f)
     go true l e = let h = there (what (field f p w)) e in (h.0, h.1, leb-true (p + w) (8 * length f) l)
-    go false l e = let z : ◌≡◌ {A = ℕ} 0 1 = cc in absurd (omega arith)
+    go false l e = absurd cc
 
 pub below_inv : (n v s : ℕ) → below n v ≡ Some s → ltb s n ≡ true
 below_inv n v s e = go (ltb v n) refl e
@@ -35,7 +35,7 @@ below_inv n v s e = go (ltb v n) refl e
 module _ {X : Type 0} (f : List ℕ) (r : Reader X) (p : X → Bool) (holds : (at : ℕ) (x : X) (q : ℕ) → next x q ≡ r f at → p x ≡ true) where
   pub row_inv : (n at : ℕ) (xs : List X) (q : ℕ) → next xs q ≡ repeated r n f at → (each p xs ≡ true) × (length xs ≡ n)
   row_inv zero at [] q e = (refl, refl)
-  row_inv zero at (x ∷ xs) q e = let z : ◌≡◌ {A = ℕ} 0 1 = cc in absurd (omega arith)
+  row_inv zero at (x ∷ xs) q e = absurd cc
   row_inv (suc n) at xs q e = first (r f at) refl (λ t. row_inv n t) e
     where
       rest : (y : X) → p y ≡ true → (m : Step (List X)) → ((ys : List X) (u : ℕ) → next ys u ≡ m → (each p ys ≡ true) × (length ys ≡ n)) → next xs q ≡ follow m (λ ys u. next (y ∷ ys) u) →
@@ -44,19 +44,19 @@ module _ {X : Type 0} (f : List ℕ) (r : Reader X) (p : X → Bool) (holds : (a
           let k = ih ys u refl in
           let same : y ∷ ys ≡ xs = cc in
           subst (λ (zs : List X). (each p zs ≡ true) × (length zs ≡ suc n)) same (ap (λ (b : Bool). elim b [ true ↦ each p ys | false ↦ false ]) h ∙ k.0, ap suc k.1)
-      rest y h (stop s u) ih e = let z : ◌≡◌ {A = ℕ} 0 1 = cc in absurd (omega arith)
+      rest y h (stop s u) ih e = absurd cc
 
       first : (m : Step X) → r f at ≡ m → ((t : ℕ) (ys : List X) (u : ℕ) → next ys u ≡ repeated r n f t → (each p ys ≡ true) × (length ys ≡ n)) →
           next xs q ≡ follow m (λ y t. follow (repeated r n f t) (λ ys u. next (y ∷ ys) u)) → (each p xs ≡ true) × (length xs ≡ suc n)
       first (next y t) l ih e = rest y (holds at y t (sym l)) (repeated r n f t) (ih t) e
-      first (stop s t) l ih e = let z : ◌≡◌ {A = ℕ} 0 1 = cc in absurd (omega arith)
+      first (stop s t) l ih e = absurd cc
 
 pub take_inv : (w : ℕ) (f : List ℕ) (p v q : ℕ) → next v q ≡ take w f p → (q ≡ p + w) × (p + w ≤ 8 * length f)
 take_inv w f p v q e = go (leb (p + w) (8 * length f)) refl e
   where
     go : (b : Bool) → leb (p + w) (8 * length f) ≡ b → next v q ≡ elim b [ true ↦ next (field f p w) (p + w) | false ↦ stop EndsInField p ] → (q ≡ p + w) × (p + w ≤ 8 * length f)
     go true l e = (cc, leb-true (p + w) (8 * length f) l)
-    go false l e = let z : ◌≡◌ {A = ℕ} 0 1 = cc in absurd (omega arith)
+    go false l e = absurd cc
 
 -- readers go forward
 module _ {X : Type 0} (f : List ℕ) (r : Reader X) (on : (p : ℕ) (x : X) (q : ℕ) → next x q ≡ r f p → p ≤ q) where
@@ -66,11 +66,11 @@ module _ {X : Type 0} (f : List ℕ) (r : Reader X) (on : (p : ℕ) (x : X) (q :
     where
       rest : (y : X) (t : ℕ) → p ≤ t → (m : Step (List X)) → ((ys : List X) (u : ℕ) → next ys u ≡ m → t ≤ u) → next xs q ≡ follow m (λ ys u. next (y ∷ ys) u) → p ≤ q
       rest y t h (next ys u) ih e = let k : t ≤ u = ih ys u refl in let s : q ≡ u = cc in omega arith
-      rest y t h (stop s u) ih e = let z : ◌≡◌ {A = ℕ} 0 1 = cc in absurd (omega arith)
+      rest y t h (stop s u) ih e = absurd cc
 
       first : (m : Step X) → r f p ≡ m → ((t : ℕ) (ys : List X) (u : ℕ) → next ys u ≡ repeated r n f t → t ≤ u) → next xs q ≡ follow m (λ y t. follow (repeated r n f t) (λ ys u. next (y ∷ ys) u)) → p ≤ q
       first (next y t) l ih e = rest y t (on p y t (sym l)) (repeated r n f t) (ih t) e
-      first (stop s t) l ih e = let z : ◌≡◌ {A = ℕ} 0 1 = cc in absurd (omega arith)
+      first (stop s t) l ih e = absurd cc
 
 -- numbers below a limit, in a row
 module _ (w n : ℕ) (reason : Reason) (f : List ℕ) where

@@ -15,18 +15,18 @@ use Rattle.algebra.proofs.Rows.{row_inv, row_below, for_below}
 
 follow_inv : {A B : Type 0} (m : Step A) (k : A → ℕ → Step B) (y : B) (q : ℕ) → next y q ≡ follow m k → (x : A) × (t : ℕ) × (next x t ≡ m) × (next y q ≡ k x t)
 follow_inv (next x t) k y q e = (x, t, refl, e)
-follow_inv (stop r t) k y q e = let z : ◌≡◌ {A = ℕ} 0 1 = cc in absurd (omega arith)
+follow_inv (stop r t) k y q e = absurd cc
 
 must_inv : (b : Bool) (r : Reason) (p : ℕ) (f : List ℕ) (u : ℕ) (x : Unit {0}) (q : ℕ) → next x q ≡ must b r p f u → b ≡ true
 must_inv true r p f u x q e = refl
-must_inv false r p f u x q e = let z : ◌≡◌ {A = ℕ} 0 1 = cc in absurd (omega arith)
+must_inv false r p f u x q e = absurd cc
 
 take_small : (w : ℕ) (f : List ℕ) (p v q : ℕ) → next v q ≡ take w f p → v < 2 ^ w
 take_small w f p v q e = go (leb (p + w) (8 * length f)) e
   where
     go : (b : Bool) → next v q ≡ elim b [ true ↦ next (field f p w) (p + w) | false ↦ stop EndsInField p ] → v < 2 ^ w
     go true e = let h : field f p w ≡ v = cc in subst (λ n. n < 2 ^ w) h (field_small f p w)
-    go false e = let z : ◌≡◌ {A = ℕ} 0 1 = cc in absurd (omega arith)
+    go false e = absurd cc
 
 size_fits_lem : (f : List ℕ) (p z q : ℕ) → next z q ≡ read_size f p → size_fits z ≡ true
 size_fits_lem f p z q e =

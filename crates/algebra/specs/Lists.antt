@@ -7,7 +7,7 @@ use Rattle.definitions.specs.Lists.{at, bind, each}
 use Rattle.definitions.specs.Fits.{Every}
 
 pub none_some : {A : Type 0} {P : Type 0} (x : A) → ◌≡◌ {A = Option A} None (Some x) → P
-none_some x e = let z : ◌≡◌ {A = ℕ} 0 1 = cc in absurd (omega arith)
+none_some x e = absurd cc
 
 pub some_inj : {A : Type 0} (x y : A) → ◌≡◌ {A = Option A} (Some x) (Some y) → x ≡ y
 some_inj x y e = cc

@@ -83,7 +83,7 @@ module _ (a : Alg) (c : Scope) (part : Option ℕ → Reader Sorted) (p : ℕ) (
   no_left e r t l = go (part None f q) l ∙ ap equal_of e
     where
       go : (m : Step Sorted) → stop r t ≡ sorts m → stop r t ≡ sorts (follow m (λ x t. follow (part (Some x.the_sort) f t) (λ y u. next (of 0 equal (x.the_term ∷ y.the_term ∷ [])) u)))
-      go (next x u) e = let z : ◌≡◌ {A = ℕ} 0 1 = cc in absurd (omega arith)
+      go (next x u) e = absurd cc
       go (stop s u) e = e
 
   second : (x : Sorted) (m : Step Sorted) → follow (placed m) (λ _ t. next 0 t) ≡ sorts (follow m (λ y u. next (of 0 equal (x.the_term ∷ y.the_term ∷ [])) u))
@@ -98,7 +98,7 @@ module _ (a : Alg) (c : Scope) (part : Option ℕ → Reader Sorted) (p : ℕ) (
           let i : s ≡ x.the_sort = cc in
           let j : t ≡ u = cc in
           ap (λ n. follow (placed (part (Some n) f t)) (λ _ t. next 0 t)) i ∙ ap (λ n. follow (placed (part (Some x.the_sort) f n)) (λ _ t. next 0 t)) j ∙ second x (part (Some x.the_sort) f u)
-      go (stop r u) e = let z : ◌≡◌ {A = ℕ} 0 1 = cc in absurd (omega arith)
+      go (stop r u) e = absurd cc
 
 -- an operation whose arguments came to w
 pub operation_done : (a : Alg) (part : Option ℕ → Reader Sorted) (f : List ℕ) (o : Operation) (q : ℕ) (m : Step Sorted) → operated a part f q (Ok o) ≡ m → (w : Step (Unit {0})) → w ≡ placed (one_by_one (λ k. part (a.arg_sort o.op k)) (up_to o.count) f q) → follow w (λ _ t. next o.sort t) ≡ sorts m

@@ -1,5 +1,5 @@
 -- One reader after another, with their values forgotten.
-use Rattle.std.proofs.Common.{◌≡◌, ℕ, suc, ◌+◌, ◌<◌, ◌≤◌, List, [], ◌∷◌, map, length, get_or, Some, None, Option, Bor, refl, ap, ◌∙◌, add-one, arith}
+use Rattle.std.proofs.Common.{◌≡◌, ℕ, suc, ◌+◌, ◌<◌, ◌≤◌, List, [], ◌∷◌, map, length, get_or, Some, None, Option, Bor, refl, ap, ◌∙◌, add-one}
 use Rattle.std.specs.Option.{option_map}
 use Rattle.std.specs.Slice.{IsItemAt}
 use Rattle.system.specs.declared.header.Quantified.{Quantified as Kept}
@@ -16,7 +16,7 @@ use Rattle.system.proofs.Lists.{at_item, at_none}
 
 pub after : {A B : Type 0} (m : Step A) (k : A → ℕ → Step B) (q : ℕ) (w : Step (Unit {0})) → next tt q ≡ placed m → ((x : A) → w ≡ placed (k x q)) → w ≡ placed (follow m k)
 after (next x t) k q w e h = let i : q ≡ t = cc in h x ∙ ap (λ z. placed (k x z)) i
-after (stop r t) k q w e h = let z : ◌≡◌ {A = ℕ} 0 1 = cc in absurd (omega arith)
+after (stop r t) k q w e h = absurd cc
 
 pub exactly : {A B : Type 0} (m : Step A) (k : A → ℕ → Step B) (x : A) (q : ℕ) (w : Step (Unit {0})) → next x q ≡ m → w ≡ placed (k x q) → w ≡ placed (follow m k)
 exactly m k x q w e h = h ∙ ap (λ z. placed (follow z k)) e

@@ -7,8 +7,8 @@ zeros_next xs i n x e h = rw add-one (go xs i (n - i) (n - suc i) e (omega arith
   where
     go : (xs : List ℕ) (i u v : ℕ) → drop i xs ≡ replicate u 0 → u ≡ suc v → drop (suc i) (set xs i x) ≡ replicate v 0
     go xs i zero v e k = absurd (omega arith)
-    go [] zero (suc u) v e k = let z : ◌≡◌ {A = ℕ} 0 1 = cc in absurd (omega arith)
-    go [] (suc i) (suc u) v e k = let z : ◌≡◌ {A = ℕ} 0 1 = cc in absurd (omega arith)
+    go [] zero (suc u) v e k = absurd cc
+    go [] (suc i) (suc u) v e k = absurd cc
     go (y ∷ ys) zero (suc u) v e k = let j : u ≡ v = omega arith in let l : ys ≡ replicate u 0 = cc in l ∙ ap (λ m. replicate m 0) j
     go (y ∷ ys) (suc i) (suc u) v e k = go ys i (suc u) v e k
 

@@ -95,7 +95,7 @@ module _ (a : Alg) (f : List ℕ) (short : length f ≤ 65536) where
       each p x u e ts ps h (suc k) t i = h k t i
 
   target_there : (i p v : ℕ) (o : Option Header) (t : ℕ × Header) (u : ℕ) → given (bind o (λ h. Some (i, h))) NoSuchName p f v ≡ next t u → (o ≡ Some t.1) × ((i ≡ t.0) × (v ≡ u))
-  target_there i p v None t u e = let z : ◌≡◌ {A = ℕ} 0 1 = cc in absurd (omega arith)
+  target_there i p v None t u e = absurd cc
   target_there i p v (Some h) t u e =
       let k : (i, h) ≡ t = pair_of e in
       (ap (λ (z : ℕ × Header). Some z.1) k, (ap (λ (z : ℕ × Header). z.0) k, cc))
@@ -217,7 +217,7 @@ module _ (a : Alg) (f : List ℕ) (short : length f ≤ 65536) where
 
 module _ (a : Alg) (f : List ℕ) (p : ℕ) where
   never : {A : Type 0} (x : A) (o : Option A) → o ≡ None → o ≡ Some x → ⊥
-  never x o e h = let z : ◌≡◌ {A = ℕ} 0 1 = cc in omega arith
+  never x o e h = cc
 
   pub body_found : (r : Option BodyAt) → BodyPlaces a f p r → BodyFound a f p r
   body_found None places hs h e q short k =

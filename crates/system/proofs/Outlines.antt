@@ -23,10 +23,10 @@ use Rattle.system.proofs.Walks.{ReadAt, places_read}
 -- what was placed
 pub was_next : {X : Type 0} (m : Step X) (q : ℕ) → next tt q ≡ placed m → (x : X) × (m ≡ next x q)
 was_next (next x t) q e = let i : t ≡ q = cc in (x, ap (λ u. next x u) i)
-was_next (stop r t) q e = let z : ◌≡◌ {A = ℕ} 0 1 = cc in absurd (omega arith)
+was_next (stop r t) q e = absurd cc
 
 pub was_stop : {X : Type 0} (m : Step X) (r : Reason) (q : ℕ) → stop r q ≡ placed m → m ≡ stop r q
-was_stop (next x t) r q e = let z : ◌≡◌ {A = ℕ} 0 1 = cc in absurd (omega arith)
+was_stop (next x t) r q e = absurd cc
 was_stop (stop s t) r q e = let i : s ≡ r = cc in let j : t ≡ q = cc in ap (λ u. stop u t) i ∙ ap (λ u. stop r u) j
 
 -- an equation as read has the header that it was read by
@@ -37,15 +37,15 @@ read_header_lem a hs h f p e q k = go (read_of a (scope h) 0 f p) k
     clauses t (next cs v) k =
         let i : record { sign = h.sign; sorts = h.sorts; quantified = h.quantified; h = t; clauses = cs } ≡ e = cc in
         sym (ap header_of i)
-    clauses t (stop r v) k = let z : ◌≡◌ {A = ℕ} 0 1 = cc in absurd (omega arith)
+    clauses t (stop r v) k = absurd cc
 
     counted : (t : Term) (m : Step ℕ) → follow m (λ n u. follow (repeated (read_clause a hs (scope h)) n f u) (λ cs v. next (record { sign = h.sign; sorts = h.sorts; quantified = h.quantified; h = t; clauses = cs }) v)) ≡ next e q → header_of e ≡ h
     counted t (next n u) k = clauses t (repeated (read_clause a hs (scope h)) n f u) k
-    counted t (stop r u) k = let z : ◌≡◌ {A = ℕ} 0 1 = cc in absurd (omega arith)
+    counted t (stop r u) k = absurd cc
 
     go : (m : Step Term) → follow m (λ t q. follow (take 4 f q) (λ n u. follow (repeated (read_clause a hs (scope h)) n f u) (λ cs v. next (record { sign = h.sign; sorts = h.sorts; quantified = h.quantified; h = t; clauses = cs }) v))) ≡ next e q → header_of e ≡ h
     go (next t u) k = counted t (take 4 f u) k
-    go (stop r u) k = let z : ◌≡◌ {A = ℕ} 0 1 = cc in absurd (omega arith)
+    go (stop r u) k = absurd cc
 
 -- values read one by one that each tell what they were read by
 pub each_tells : {X B : Type 0} (g : B → X) (r : X → Reader B) (f : List ℕ) → ((x : X) (p : ℕ) (y : B) (q : ℕ) → r x f p ≡ next y q → g y ≡ x) →
@@ -57,11 +57,11 @@ each_tells {X} {B} g r f t (x ∷ xs) p ys q e = go (λ u zs v. each_tells g r f
     rest y k (next zs v) ih e =
         let i : ys ≡ y ∷ zs = cc in
         ap (map g) i ∙ ap (λ w. w ∷ map g zs) k ∙ ap (λ w. x ∷ w) (ih zs v refl)
-    rest y k (stop s v) ih e = let z : ◌≡◌ {A = ℕ} 0 1 = cc in absurd (omega arith)
+    rest y k (stop s v) ih e = absurd cc
 
     go : ((u : ℕ) (zs : List B) (v : ℕ) → one_by_one r xs f u ≡ next zs v → map g zs ≡ xs) → (m : Step B) → r x f p ≡ m → follow m (λ y t. follow (one_by_one r xs f t) (λ zs v. next (y ∷ zs) v)) ≡ next ys q → map g ys ≡ x ∷ xs
     go ih (next y u) k e = rest y (t x p y u k) (one_by_one r xs f u) (ih u) e
-    go ih (stop s u) k e = let z : ◌≡◌ {A = ℕ} 0 1 = cc in absurd (omega arith)
+    go ih (stop s u) k e = absurd cc
 
 module _ (a : Alg) (hs : List Header) (f : List ℕ) (p : ℕ) where
   pub rest_no_bodies : (r : Reason) (t : ℕ) → stop r t ≡ placed (one_by_one (read_body a hs) hs f p) → read_rest a hs f p ≡ stop r t
@@ -97,7 +97,7 @@ system_read a f n q e h hs u k =
     ap (λ m. follow m (λ hs q. read_rest a hs f q)) (sym k)
 
 body_at : (ts : List Told) (i : ℕ) (t : Told) → at ts i ≡ Some t → t.body ≡ get_or (map (λ (t : Told). t.body) ts) i 0
-body_at [] i t e = let z : ◌≡◌ {A = ℕ} 0 1 = cc in absurd (omega arith)
+body_at [] i t e = absurd cc
 body_at (u ∷ ts) zero t e = let i : t ≡ u = cc in ap (λ (t : Told). t.body) i
 body_at (u ∷ ts) (suc i) t e = body_at ts i t e
 
@@ -144,8 +144,8 @@ pub got_short : (a : Alg) (f : List ℕ) (s : System) → reading a f ≡ got s 
 got_short a f s e = go (eqb (length f) 0) (ltb 8192 (length f)) refl e
   where
     go : (b d : Bool) → ltb 8192 (length f) ≡ d → elim (b || d) [ true ↦ bad BadLength 0 | false ↦ ended (complete (read_system a) f 0) ] ≡ got s → length f ≤ 8192
-    go true d h e = let z : ◌≡◌ {A = ℕ} 0 1 = cc in absurd (omega arith)
-    go false true h e = let z : ◌≡◌ {A = ℕ} 0 1 = cc in absurd (omega arith)
+    go true d h e = absurd cc
+    go false true h e = absurd cc
     go false false h e = ltb-false 8192 (length f) h
 
 -- the first of readers in a row, and the rest
@@ -159,9 +159,9 @@ repeated_more {B} r f n p xs q e = go (r f p) refl e
         let i : u ≡ q = cc in
         let j : xs ≡ x ∷ ys = cc in
         (x, (t, (ys, (h, (k ∙ ap (λ z. next ys z) i, j)))))
-    rest x t h (stop s u) k e = let z : ◌≡◌ {A = ℕ} 0 1 = cc in absurd (omega arith)
+    rest x t h (stop s u) k e = absurd cc
 
     go : (m : Step B) → r f p ≡ m → follow m (λ y t. follow (repeated r n f t) (λ ys u. next (y ∷ ys) u)) ≡ next xs q →
         (x : B) × ((t : ℕ) × ((ys : List B) × ((r f p ≡ next x t) × ((repeated r n f t ≡ next ys q) × (xs ≡ x ∷ ys)))))
     go (next x t) h e = rest x t h (repeated r n f t) refl e
-    go (stop s t) h e = let z : ◌≡◌ {A = ℕ} 0 1 = cc in absurd (omega arith)
+    go (stop s t) h e = absurd cc

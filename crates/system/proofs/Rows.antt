@@ -26,7 +26,7 @@ placed_sorts (next x q) = refl
 placed_sorts (stop r q) = refl
 
 pub dropped : {X : Type 0} (xs : List X) (i : ℕ) (x : X) → at xs i ≡ Some x → drop i xs ≡ x ∷ drop (suc i) xs
-dropped [] i x e = let z : ◌≡◌ {A = ℕ} 0 1 = cc in absurd (omega arith)
+dropped [] i x e = absurd cc
 dropped (y ∷ xs) zero x e = let i : y ≡ x = cc in ap (λ z. z ∷ xs) i
 dropped (y ∷ xs) (suc i) x e = dropped xs i x e
 
@@ -36,10 +36,10 @@ placed_more y (stop r q) = refl
 
 next_at : {B : Type 0} (k : ℕ → Step (List B)) (q : ℕ) (m : Step B) → next tt q ≡ placed m → placed (follow m (λ y t. follow (k t) (λ ys u. next (y ∷ ys) u))) ≡ placed (k q)
 next_at k q (next y t) e = let i : t ≡ q = cc in placed_more y (k t) ∙ ap (λ z. placed (k z)) i
-next_at k q (stop r t) e = let z : ◌≡◌ {A = ℕ} 0 1 = cc in absurd (omega arith)
+next_at k q (stop r t) e = absurd cc
 
 stop_at : {A B : Type 0} (k : B → ℕ → Step A) (r : Reason) (q : ℕ) (m : Step B) → stop r q ≡ placed m → stop r q ≡ placed (follow m k)
-stop_at k r q (next y t) e = let z : ◌≡◌ {A = ℕ} 0 1 = cc in absurd (omega arith)
+stop_at k r q (next y t) e = absurd cc
 stop_at k r q (stop s t) e = e
 
 module _ {X B : Type 0} (r : X → Reader B) (xs : List X) where

@@ -1,5 +1,5 @@
 -- The places of readers in a row, and what is read at each.
-use Rattle.std.proofs.Common.{◌≡◌, ℕ, zero, suc, ◌+◌, ◌≤◌, List, [], ◌∷◌, ◌++◌, length, get_or, drop, Some, None, sym, refl, ap, ◌∙◌, add-one, arith}
+use Rattle.std.proofs.Common.{◌≡◌, ℕ, zero, suc, ◌+◌, ◌≤◌, List, [], ◌∷◌, ◌++◌, length, get_or, drop, Some, None, sym, refl, ap, ◌∙◌, add-one}
 use Rattle.std.proofs.lemmas.List.{append-nil, append_assoc, drop_all}
 use Rattle.definitions.specs.Reading.{Step, next, stop, Reader, follow, one_by_one}
 use Rattle.definitions.specs.Lists.{at}
@@ -18,7 +18,7 @@ module _ {X B : Type 0} (r : X → Reader B) (xs : List X) (f : List ℕ) where
     where
       go : (m : Step B) → next tt q ≡ placed m → elim m [ next y t ↦ places_of r (drop (suc i) xs) f t | stop s t ↦ [] ] ≡ places_of r (drop (suc i) xs) f q
       go (next y t) e = let j : t ≡ q = cc in ap (λ z. places_of r (drop (suc i) xs) f z) j
-      go (stop s t) e = let z : ◌≡◌ {A = ℕ} 0 1 = cc in absurd (omega arith)
+      go (stop s t) e = absurd cc
 
   pub places_end : (ps : List ℕ) (i p : ℕ) → length xs ≤ i → ps ++ places_of r (drop i xs) f p ≡ ps
   places_end ps i p h = ap (λ ys. ps ++ places_of r ys f p) (drop_all i xs h) ∙ append-nil ps
@@ -35,12 +35,12 @@ pub places_read : {X B : Type 0} (f : List ℕ) (r : X → Reader B) (xs : List 
 places_read f r [] p q es h i e l =
     let s : es ≡ [] = cc in
     let k : None ≡ Some e = ap (λ z. at z i) (sym s) ∙ l in
-    let z : ◌≡◌ {A = ℕ} 0 1 = cc in absurd (omega arith)
+    absurd cc
 places_read {X} {B} f r (x ∷ xs) p q es h i e l = go (λ t u ys j. places_read f r xs t u ys j) (r x f p) refl h
   where
     rest : AllRead f r xs → (y : B) (t : ℕ) → r x f p ≡ next y t → (m : Step (List B)) → one_by_one r xs f t ≡ m → follow m (λ ys u. next (y ∷ ys) u) ≡ next es q →
         (i : ℕ) → at es i ≡ Some e → ReadAt f r (x ∷ xs) (places_of r (x ∷ xs) f p) i e
-    rest ih y t a (stop s u) b h i l = let z : ◌≡◌ {A = ℕ} 0 1 = cc in absurd (omega arith)
+    rest ih y t a (stop s u) b h i l = absurd cc
     rest ih y t a (next ys u) b h zero l =
         let s : es ≡ y ∷ ys = cc in
         let k : Some y ≡ Some e = ap (λ z. at z 0) (sym s) ∙ l in
@@ -53,4 +53,4 @@ places_read {X} {B} f r (x ∷ xs) p q es h i e l = go (λ t u ys j. places_read
 
     go : AllRead f r xs → (m : Step B) → r x f p ≡ m → follow m (λ y t. follow (one_by_one r xs f t) (λ ys u. next (y ∷ ys) u)) ≡ next es q → ReadAt f r (x ∷ xs) (places_of r (x ∷ xs) f p) i e
     go ih (next y t) a h = rest ih y t a (one_by_one r xs f t) refl h i l
-    go ih (stop s t) a h = let z : ◌≡◌ {A = ℕ} 0 1 = cc in absurd (omega arith)
+    go ih (stop s t) a h = absurd cc

@@ -41,4 +41,4 @@ few_parts a l o n e = go (ltb o a.ops) refl
         omega arith
     go false h =
         let x = (l.no_op o (ltb-false o a.ops h)).0 in
-        let z : ◌≡◌ {A = ℕ} 0 1 = cc in absurd (omega arith)
+        absurd cc

@@ -1,5 +1,5 @@
 -- What lists that tell the same know, and where a term stands.
-use Rattle.std.proofs.Common.{◌≡◌, ℕ, List, Some, None, Option, refl, arith}
+use Rattle.std.proofs.Common.{◌≡◌, ℕ, List, Some, None, Option, refl}
 use Rattle.definitions.specs.Alg.{Alg}
 use Rattle.definitions.specs.Systems.{Kind, parameter, variable, value, operation, not, and, or, equal}
 use Rattle.definitions.specs.Values.{kind_known}
@@ -22,9 +22,9 @@ known_same a ps qs vs ws h i = λ j k xs. kind_same a ps qs vs ws h i k xs j
 
 -- a term stands where there is a place behind it
 pub stands_what : {A : Type 0} (o : Option (A × ℕ)) (q : ℕ) → Some q ≡ behind o → (x : A) × (what o ≡ Some x)
-stands_what None q e = let z : ◌≡◌ {A = ℕ} 0 1 = cc in absurd (omega arith)
+stands_what None q e = absurd cc
 stands_what (Some x) q e = (x.0, refl)
 
 pub stands_not : {A : Type 0} (o : Option (A × ℕ)) → None ≡ behind o → what o ≡ None
 stands_not None e = refl
-stands_not (Some x) e = let z : ◌≡◌ {A = ℕ} 0 1 = cc in absurd (omega arith)
+stands_not (Some x) e = absurd cc

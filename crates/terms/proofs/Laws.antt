@@ -1,5 +1,5 @@
 -- Where the reading of a system reads a term, that term stands.
-use Rattle.std.proofs.Common.{◌≡◌, ℕ, zero, suc, ◌≤◌, Bool, true, false, eqb, ltb, List, [], ◌∷◌, map, length, Some, None, Option, refl, ap, ◌∙◌, arith}
+use Rattle.std.proofs.Common.{◌≡◌, ℕ, zero, suc, ◌≤◌, Bool, true, false, eqb, ltb, List, [], ◌∷◌, map, length, Some, None, Option, refl, ap, ◌∙◌}
 use Rattle.faults.specs.declared.Reason.{Reason}
 use Rattle.faults.specs.declared.Reason.TheVariants.{TooDeep, NoSuchSort, NoSuchName, ValueTooLarge, WrongSort}
 use Rattle.definitions.specs.Lists.{at, bind, from, up_to}
@@ -16,11 +16,11 @@ Followed {A} m k y q = (x : A) × ((t : ℕ) × ((m ≡ next x t) × (k x t ≡ 
 
 pub followed : {A B : Type 0} (m : Step A) (k : A → ℕ → Step B) (y : B) (q : ℕ) → follow m k ≡ next y q → Followed m k y q
 followed (next x t) k y q e = (x, (t, (refl, e)))
-followed (stop r t) k y q e = let z : ◌≡◌ {A = ℕ} 0 1 = cc in absurd (omega arith)
+followed (stop r t) k y q e = absurd cc
 
 pub given_there : {A B : Type 0} (o : Option A) (r : Reason) (s : ℕ) (f : List ℕ) (u : ℕ) (k : A → ℕ → Step B) (y : B) (q : ℕ) → follow (given o r s f u) k ≡ next y q → (x : A) × ((o ≡ Some x) × (k x u ≡ next y q))
 given_there (Some x) r s f u k y q e = (x, (refl, e))
-given_there None r s f u k y q e = let z : ◌≡◌ {A = ℕ} 0 1 = cc in absurd (omega arith)
+given_there None r s f u k y q e = absurd cc
 
 suited : {B : Type 0} (need : Option ℕ) (s p : ℕ) (f : List ℕ) (u : ℕ) (k : ℕ → Step B) (y : B) (q : ℕ) → follow (suits need s p f u) (λ _ v. k v) ≡ next y q → k u ≡ next y q
 suited None s p f u k y q e = e
@@ -28,14 +28,14 @@ suited {B} (Some n) s p f u k y q e = go (eqb n s) e
   where
     go : (b : Bool) → follow (must b WrongSort p f u) (λ _ v. k v) ≡ next y q → k u ≡ next y q
     go true e = e
-    go false e = let z : ◌≡◌ {A = ℕ} 0 1 = cc in absurd (omega arith)
+    go false e = absurd cc
 
 below_same : (z n v : ℕ) → below z n ≡ Some v → n ≡ v
 below_same z n v e = go (ltb n z) e
   where
     go : (b : Bool) → elim b [ true ↦ Some n | false ↦ None ] ≡ Some v → n ≡ v
     go true e = cc
-    go false e = let z : ◌≡◌ {A = ℕ} 0 1 = cc in absurd (omega arith)
+    go false e = absurd cc
 
 module _ (f : List ℕ) (short : length f ≤ 65536) where
   pub field_is : (w t n u : ℕ) → take w f t ≡ next n u → field_at w f t ≡ Some (n, u)
@@ -115,7 +115,7 @@ module _ (a : Alg) (c : Scope) (f : List ℕ) (short : length f ≤ 65536) (s : 
     where
       below_given : (o : Option ℕ) (u v y w : ℕ) → given o ValueTooLarge u f v ≡ next y w → (o ≡ Some y) × (v ≡ w)
       below_given (Some z) u v y w e = (cc, cc)
-      below_given None u v y w e = let z : ◌≡◌ {A = ℕ} 0 1 = cc in absurd (omega arith)
+      below_given None u v y w e = absurd cc
 
   operation_stands : follow (take 6 f t) (λ o u. follow (given (a.arity o) NoSuchName t f u) (λ n u. follow (given (a.res_sort o) NoSuchName t f u) (λ s u. follow (suits need s p f u) (λ _ u. follow (one_by_one (λ k. part (a.arg_sort o k)) (up_to n) f u) (λ ts u. next (of s (operation o) (map (λ t. t.the_term) ts)) u))))) ≡ next x q →
       Whole (bind (field_at 6 f t) (λ o. bind {A = ℕ × ℕ} (bind (a.arity o.0) (λ n. Some (n, o.1))) (λ n. Some ((operation o.0, n.0), n.1)))) ≡ Some (x.the_term, q)
@@ -161,7 +161,7 @@ pub term_stands : (a : Alg) (c : Scope) (f : List ℕ) → length f ≤ 65536 �
 term_stands a c f short zero need p x q e =
     let d = followed (take 3 f p) (λ _ _. stop TooDeep p) x q e in
     let h : stop TooDeep p ≡ next x q = d.1.1.1 in
-    let z : ◌≡◌ {A = ℕ} 0 1 = cc in absurd (omega arith)
+    absurd cc
 term_stands a c f short (suc n) need p x q e =
     let d = followed (take 3 f p) (λ k u. read_kind a c (read_term a c n) p need k f u) x q e in
     ap (λ (o : Option (ℕ × ℕ)). Whole a c f short (shape a n) (read_term a c n) (term_stands a c f short n) p need p x q (bind o (λ k. shape_kind a k.0 f k.1))) (field_is f short 3 p d.0 d.1.0 d.1.1.0) ∙

@@ -15,12 +15,12 @@ behind_node k (Some xs) = refl
 
 module _ (r : Shape Term) (f : List ℕ) where
   next_at : (n q : ℕ) (o : Option (Term × ℕ)) → behind o ≡ Some q → behind (bind o (λ x. bind (row r n f x.1) (λ xs. Some (more x.0 xs.0, xs.1)))) ≡ behind (row r n f q)
-  next_at n q None e = let z : ◌≡◌ {A = ℕ} 0 1 = cc in absurd (omega arith)
+  next_at n q None e = absurd cc
   next_at n q (Some x) e = let i : x.1 ≡ q = cc in behind_more x.0 (row r n f x.1) ∙ ap (λ m. behind (row r n f m)) i
 
   none_at : (n : ℕ) (o : Option (Term × ℕ)) → behind o ≡ None → bind {B = Terms × ℕ} o (λ x. bind (row r n f x.1) (λ xs. Some (more x.0 xs.0, xs.1))) ≡ None
   none_at n None e = refl
-  none_at n (Some x) e = let z : ◌≡◌ {A = ℕ} 0 1 = cc in absurd (omega arith)
+  none_at n (Some x) e = absurd cc
 
   -- one term more of a row
   pub row_next : (n m p q : ℕ) → n ≡ m + 1 → behind (r f p) ≡ Some q → behind (row r n f p) ≡ behind (row r m f q)

@@ -1,4 +1,4 @@
-use Rattle.std.proofs.Common.{◌≡◌, ℕ, arith, rules}
+use Rattle.std.proofs.Common.{arith, rules}
 use Rattle.bits.proofs.Fields.{field_small, taken}
 use Rattle.bits.proofs.reader.BitReader.next.Goals as goal
 
@@ -8,7 +8,7 @@ returns c =
     record {
       reads = λ _ _. taken f c.args.self.now.at c.args.width c.number-value.result (omega arith) c.number-value.ensures;
       refuses = λ h. absurd (h (omega arith) (omega arith));
-      stays = λ e. let z : ◌≡◌ {A = ℕ} 0 1 = cc in absurd (omega arith);
+      stays = λ e. absurd cc;
       small = rw c.number-value.ensures (field_small f c.args.self.now.at c.args.width);
       same = search rules;
     }
