@@ -4,3 +4,4 @@ pub mod Bytewise
 pub mod Written
 pub mod Packs
 pub mod InRow
+pub mod Left

@@ -3,3 +3,4 @@ pub mod Put
 pub mod Back
 pub mod Told
 pub mod InRow
+pub mod Writes

@@ -2,6 +2,7 @@
 ghost use Rattle.std.specs.Prelude.{◌≡◌, ◌+◌, ◌*◌, ◌/◌, ◌%◌, ◌^◌, ◌<◌, ◌≤◌, true, false, length, Ok, Err};
 ghost use Rattle.definitions.specs.Bits.{bits as bits_of};
 ghost use Rattle.bits.specs.Put.{overwritten, room as has_room, closed as padded_out};
+ghost use Rattle.bits.specs.Writes.{Writes};
 
 /// A field does not fit: the slice ends before it does, or the value is too large for the width.
 #[derive(Clone, Copy, PartialEq, Eq, Debug)]
@@ -51,6 +52,7 @@ impl<'a> BitWriter<'a> {
     pub fn put(&mut self, value: u32, width: u32) -> Result<(), Full>
         ensures written { elim result [ Ok _ ↦ (has_room self.old.bytes.now self.old.at width value ≡ true) × (self.new.bytes.now ≡ overwritten self.old.bytes.now self.old.at (bits_of width value)) × (self.new.at ≡ self.old.at + width) | Err _ ↦ (has_room self.old.bytes.now self.old.at width value ≡ false) × (self.new.bytes.now ≡ self.old.bytes.now) × (self.new.at ≡ self.old.at) ] }
         ensures named { self.new.bytes.ghost_name ≡ self.old.bytes.ghost_name }
+        ensures writes { width ≤ 32 → value < 2 ^ width → Writes (bits_of width value) self.old self.new result }
     {
         if self.bytes.len() > 65536 || width > 32 {
             return Err(Full);

@@ -1,4 +1,7 @@
 //! What a pass makes of each equation and each parameter.
+ghost use Rattle.std.specs.Prelude.{◌≡◌};
+ghost use Rattle.definitions.specs.Lists.{place};
+ghost use Rattle.passes.specs.Planned.{mask, remaining};
 
 /// What becomes of a parameter.
 #[derive(Clone, Copy, PartialEq, Eq, Debug)]
@@ -39,7 +42,9 @@ impl Change {
     }
 
     /// How many of the first n parameters stay: the new number of the one numbered n.
-    pub fn number_of(&self, n: usize) -> u32 {
+    pub fn number_of(&self, n: usize) -> u32
+        ensures { result ≡ place (mask self.now) n }
+    {
         self.parameters
             .iter()
             .take(n)
@@ -67,7 +72,9 @@ impl Plan {
 
     /// How many of the first n equations do not go: the new number of the one numbered n. One function over what is
     /// counted, for this and for the parameters, would be longer than the two.
-    pub fn number_of(&self, n: usize) -> u32 {
+    pub fn number_of(&self, n: usize) -> u32
+        ensures { result ≡ place (remaining self.now) n }
+    {
         self.equations
             .iter()
             .take(n)

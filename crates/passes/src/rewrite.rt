@@ -1,5 +1,22 @@
 //! Writing the file of a system as a plan changes it.
+ghost use Rattle.std.specs.Prelude.{◌≡◌, ℕ, ◌≤◌, ◌<◌, ◌+◌, ◌*◌, ◌/◌, ◌++◌, List, drop, length, map, Some, Ok, Err};
+ghost use Rattle.definitions.specs.Lists.{flat, strike, place, keep};
+ghost use Rattle.definitions.specs.Alg.{Alg};
+ghost use Rattle.definitions.specs.Bits.{bits, packed};
+ghost use Rattle.definitions.specs.Reading.{next};
+ghost use Rattle.definitions.specs.ReadSystem.{Header as Heading, scope, greatest_depth, read_body};
+ghost use Rattle.definitions.specs.Systems.{Term as Tree, Occurrence as ReadOccurrence, Clause as ReadClause, Equation as ReadEquation, System};
+ghost use Rattle.definitions.specs.Written.{header_bits, occurrence_bits, clause_bits, body_bits, system_bits, written};
+ghost use Rattle.definitions.specs.Fits.{HeaderFits, OccurrenceFits, ClauseFits, BodyFits, SystemFits, header_of};
+ghost use Rattle.terms.specs.Shapes.{standing};
+ghost use Rattle.bits.specs.Writes.{Writes};
+ghost use Rattle.system.specs.Files.{kept_header};
+ghost use Rattle.system.specs.Whole.{kept_headers, Outlined};
+ghost use Rattle.system.specs.Walks.{OccurrenceOf, ClauseOf};
+ghost use Rattle.passes.specs.declared.plan.Plan.{Plan as Planned};
+ghost use Rattle.passes.specs.declared.plan.EquationChange.TheVariants.{Stays};
 ghost use Rattle.passes.specs.Fronts.{Fronts};
+ghost use Rattle.passes.specs.Planned.{mask, remaining, change_of, term_by, occurrence_by, clause_by, clause_stays, equation_by, body_left, system_by, Narrow, Fitted};
 
 use crate::folding::folds_to_false;
 use crate::plan::{Change, EquationChange, Missing, ParameterChange, Plan};
@@ -13,7 +30,9 @@ use system::reading::{Equation, read};
 use system::walk::{Accepted, ClauseAt, OccurrenceAt};
 
 // A header without the parameters that do not stay, and without quantified variables if it becomes bare.
-fn write_header(header: &Header, change: &Change, writer: &mut BitWriter) -> Result<(), Full> {
+fn write_header(header: &Header, change: &Change, writer: &mut BitWriter) -> Result<(), Full>
+    ensures { (a : Alg) (P : Planned) (e : ReadEquation) → header_of e ≡ kept_header header.now → HeaderFits a (kept_header header.now) → Writes (header_bits (equation_by a P change.now e)) writer.old writer.new result }
+{
     writer.put(header.sign as u32, 1)?;
     writer.put(change.number_of(header.sorts.len()), 4)?;
     for (sort, change) in header.sorts.as_slice().iter().zip(&change.parameters) {
@@ -38,7 +57,9 @@ impl<'a, G: Algebra> Edit<'a, G> {
         &self,
         occurrence: &OccurrenceAt,
         writer: &mut BitWriter,
-    ) -> Result<(), Full> {
+    ) -> Result<(), Full>
+        ensures { (o : ReadOccurrence) (vs : List ℕ) (q : ℕ) → Narrow self.now.sorts.now → OccurrenceFits (G.meaning self.now.accepted.now.alg.now) (kept_headers self.now.accepted.now.outline.now) (record { parameters = self.now.sorts.now; variables = vs }) o → OccurrenceOf (G.meaning self.now.accepted.now.alg.now) self.now.accepted.now.file.now o q occurrence.now → Writes (occurrence_bits (occurrence_by self.now.plan.now (term_by (G.meaning self.now.accepted.now.alg.now) self.now.plan.now self.now.sorts.now self.now.change.now) o)) writer.old writer.new result }
+    {
         let target = occurrence.target as usize;
         writer.put(self.plan.number_of(target), 5)?;
         let changes = &self.plan.equations[target].parameters;
@@ -51,7 +72,9 @@ impl<'a, G: Algebra> Edit<'a, G> {
     }
 
     // A clause.
-    fn write_clause(&self, clause: &ClauseAt, writer: &mut BitWriter) -> Result<(), Full> {
+    fn write_clause(&self, clause: &ClauseAt, writer: &mut BitWriter) -> Result<(), Full>
+        ensures { (k : ReadClause) (vs : List ℕ) (q : ℕ) → length self.now.accepted.now.file.now ≤ 65536 → Narrow self.now.sorts.now → ClauseFits (G.meaning self.now.accepted.now.alg.now) (kept_headers self.now.accepted.now.outline.now) (record { parameters = self.now.sorts.now; variables = vs }) k → ClauseOf (G.meaning self.now.accepted.now.alg.now) (kept_headers self.now.accepted.now.outline.now) (record { parameters = self.now.sorts.now; variables = vs }) self.now.accepted.now.file.now k q clause.now → Writes (clause_bits (clause_by self.now.plan.now (term_by (G.meaning self.now.accepted.now.alg.now) self.now.plan.now self.now.sorts.now self.now.change.now) k)) writer.old writer.new result }
+    {
         self.write_term(clause.guard, writer)?;
         writer.put(clause.count as u32 - 1, 3)?;
         let occurrences = self.accepted.occurrences(clause).ok_or(Full)?;
@@ -62,12 +85,16 @@ impl<'a, G: Algebra> Edit<'a, G> {
     }
 
     // Whether the clause stays; where all folds, one whose guard is known false though nothing is known goes.
-    fn stays(&self, clause: &ClauseAt) -> bool {
+    fn stays(&self, clause: &ClauseAt) -> bool
+        ensures { (k : ReadClause) → standing (G.meaning self.now.accepted.now.alg.now) greatest_depth self.now.accepted.now.file.now clause.now.guard ≡ Some k.guard → result ≡ clause_stays (G.meaning self.now.accepted.now.alg.now) self.now.plan.now k }
+    {
         !self.plan.fold || !folds_to_false(self.accepted, clause.guard)
     }
 
     // The body at the place.
-    fn write_body(&self, at: usize, writer: &mut BitWriter) -> Result<(), Full> {
+    fn write_body(&self, at: usize, writer: &mut BitWriter) -> Result<(), Full>
+        ensures { (e : ReadEquation) (h : Heading) (q : ℕ) → length self.now.accepted.now.file.now ≤ 65536 → Narrow self.now.sorts.now → e.sorts ≡ self.now.sorts.now → header_of e ≡ h → BodyFits (G.meaning self.now.accepted.now.alg.now) (kept_headers self.now.accepted.now.outline.now) e → read_body (G.meaning self.now.accepted.now.alg.now) (kept_headers self.now.accepted.now.outline.now) h self.now.accepted.now.file.now at ≡ next e q → self.now.change.now.equation ≡ Stays → Writes (body_bits (equation_by (G.meaning self.now.accepted.now.alg.now) self.now.plan.now self.now.change.now e)) writer.old writer.new result }
+    {
         let body = self.accepted.open_body(at).ok_or(Full)?;
         self.write_term(body.h, writer)?;
         let clauses = self.accepted.clauses(&body).ok_or(Full)?;
@@ -92,7 +119,9 @@ fn write_changed<G: Algebra>(
     equation: &Equation,
     change: &Change,
     writer: &mut BitWriter,
-) -> Result<(), Full> {
+) -> Result<(), Full>
+    ensures { (e : ReadEquation) (q : ℕ) → length accepted.now.file.now ≤ 65536 → header_of e ≡ kept_header equation.now.header → HeaderFits (G.meaning accepted.now.alg.now) (header_of e) → BodyFits (G.meaning accepted.now.alg.now) (kept_headers accepted.now.outline.now) e → read_body (G.meaning accepted.now.alg.now) (kept_headers accepted.now.outline.now) (header_of e) accepted.now.file.now equation.now.body ≡ next e q → Writes (body_left (G.meaning accepted.now.alg.now) plan.now change.now e) writer.old writer.new result }
+{
     match change.equation {
         EquationChange::Goes => Ok(()),
         EquationChange::Bare => {
@@ -117,7 +146,9 @@ fn write_start<G: Algebra>(
     accepted: &Accepted<G>,
     plan: &Plan,
     writer: &mut BitWriter,
-) -> Result<(), Full> {
+) -> Result<(), Full>
+    ensures { (s : System) → Outlined (G.meaning accepted.now.alg.now) accepted.now.file.now s accepted.now.outline.now → SystemFits (G.meaning accepted.now.alg.now) s → Writes (bits 5 (place (remaining plan.now) s.start) ++ flat (map (bits 8) (strike (mask (change_of plan.now s.start)) s.values))) writer.old writer.new result }
+{
     let start = accepted.outline.start;
     let number = start.equation as usize;
     writer.put(plan.number_of(number), 5)?;
@@ -142,7 +173,9 @@ fn write_system<G: Algebra>(
     accepted: &Accepted<G>,
     plan: &Plan,
     writer: &mut BitWriter,
-) -> Result<(), Full> {
+) -> Result<(), Full>
+    ensures { (s : System) → length accepted.now.file.now ≤ 65536 → Outlined (G.meaning accepted.now.alg.now) accepted.now.file.now s accepted.now.outline.now → SystemFits (G.meaning accepted.now.alg.now) s → Writes (system_bits (system_by (G.meaning accepted.now.alg.now) plan.now s)) writer.old writer.new result }
+{
     let equations = accepted.outline.equations.as_slice();
     writer.put(plan.number_of(equations.len()), 5)?;
     for (equation, change) in equations.iter().zip(&plan.equations) {
@@ -161,7 +194,9 @@ fn draft<G: Algebra>(
     accepted: &Accepted<G>,
     plan: &Plan,
     buffer: &mut [u8],
-) -> Result<usize, Full> {
+) -> Result<usize, Full>
+    ensures { (s : System) → length buffer.old ≤ 65536 → length accepted.now.file.now ≤ 65536 → Outlined (G.meaning accepted.now.alg.now) accepted.now.file.now s accepted.now.outline.now → SystemFits (G.meaning accepted.now.alg.now) s → elim result [ Ok n ↦ (n ≡ length (written (system_by (G.meaning accepted.now.alg.now) plan.now s))) × (n ≤ length buffer.old) × (buffer.new ≡ written (system_by (G.meaning accepted.now.alg.now) plan.now s) ++ drop n buffer.old) | Err _ ↦ length buffer.old < length (written (system_by (G.meaning accepted.now.alg.now) plan.now s)) ] }
+{
     let mut writer = BitWriter {
         bytes: buffer,
         at: 0,
@@ -176,7 +211,8 @@ fn write_planned<G: Algebra>(
     plan: &Plan,
     out: &mut [u8],
 ) -> Result<usize, Full>
-    ensures { Fronts out.old out.new result }
+    ensures fronts { Fronts out.old out.new result }
+    ensures fits { (s : System) → length accepted.now.file.now ≤ 65536 → Outlined (G.meaning accepted.now.alg.now) accepted.now.file.now s accepted.now.outline.now → SystemFits (G.meaning accepted.now.alg.now) s → Fitted (written (system_by (G.meaning accepted.now.alg.now) plan.now s)) out.old out.new result }
 {
     let mut buffer = [0u8; LONGEST];
     let len = draft(accepted, plan, &mut buffer)?;

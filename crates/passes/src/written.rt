@@ -1,4 +1,16 @@
 //! Writing a term with its parameters renumbered or replaced, or folded.
+ghost use Rattle.std.specs.Prelude.{◌≡◌, ℕ, ◌<◌, ◌≤◌, true, false, [], List, length, Some, None, IfOk};
+ghost use Rattle.std.specs.Option.{option_map};
+ghost use Rattle.definitions.specs.Systems.{Term as Tree, value as value_kind};
+ghost use Rattle.definitions.specs.Values.{known};
+ghost use Rattle.definitions.specs.Terms.{on_parameter};
+ghost use Rattle.definitions.specs.Passes.{sort_of};
+ghost use Rattle.definitions.specs.Written.{kind_bits, term_bits};
+ghost use Rattle.definitions.specs.Fits.{Fits};
+ghost use Rattle.definitions.specs.ReadSystem.{greatest_depth};
+ghost use Rattle.terms.specs.Shapes.{standing};
+ghost use Rattle.bits.specs.Writes.{Writes};
+ghost use Rattle.passes.specs.Planned.{kind_by, term_by, kind_shown, parts_shown, Narrow, KindFits};
 use crate::plan::{Change, ParameterChange, Plan};
 use algebra::Algebra;
 use bits::{BitWriter, Full};
@@ -30,14 +42,18 @@ pub struct Edit<'a, G> {
 }
 
 // A value term.
-pub(crate) fn write_value(writer: &mut BitWriter, sort: u8, value: u8) -> Result<(), Full> {
+pub(crate) fn write_value(writer: &mut BitWriter, sort: u8, value: u8) -> Result<(), Full>
+    ensures { sort < 16 → Writes (kind_bits (value_kind sort value)) writer.old writer.new result }
+{
     writer.put(Kind::Value as u32, 3)?;
     writer.put(sort as u32, 4)?;
     writer.put(value as u32, 8)
 }
 
 // The sort of a term that has a known value though nothing is known.
-fn sort_of<G: Algebra>(alg: &G, term: Term) -> u8 {
+fn sort_of<G: Algebra>(alg: &G, term: Term) -> u8
+    ensures { result ≡ sort_of (G.meaning alg.now) (kind_shown term.entry) }
+{
     match term {
         Term::Value { sort, value: _ } => sort,
         // An operation that has a value has a sort.
@@ -48,7 +64,9 @@ fn sort_of<G: Algebra>(alg: &G, term: Term) -> u8 {
 
 impl<'a, G: Algebra> Edit<'a, G> {
     // A parameter: its value in its place, or its new number.
-    fn write_parameter(&self, n: usize, writer: &mut BitWriter) -> Result<(), Full> {
+    fn write_parameter(&self, n: usize, writer: &mut BitWriter) -> Result<(), Full>
+        ensures { Narrow self.now.sorts.now → n < length self.now.sorts.now → Writes (kind_bits (kind_by self.now.sorts.now self.now.change.now n)) writer.old writer.new result }
+    {
         match self.change.parameters.get(n).ok_or(Full)? {
             ParameterChange::Becomes(value) => write_value(
                 writer,
@@ -63,7 +81,10 @@ impl<'a, G: Algebra> Edit<'a, G> {
     }
 
     // The value and sort of the term at the view if it folds to a value term.
-    fn folded(&self, term: Term, view: View, depth: u8) -> Option<(u8, u8)> {
+    fn folded(&self, term: Term, view: View, depth: u8) -> Option<(u8, u8)>
+        ensures unfolded { self.now.plan.now.fold ≡ false → result ≡ None }
+        ensures folds { self.now.plan.now.fold ≡ true → (t : Tree) → standing (G.meaning self.now.accepted.now.alg.now) depth view.entry.bytes.now view.entry.at ≡ Some t → result ≡ option_map (λ v. (sort_of (G.meaning self.now.accepted.now.alg.now) (kind_shown term.entry), v)) (known (G.meaning self.now.accepted.now.alg.now) [] t) }
+    {
         if !self.plan.fold {
             return None;
         }
@@ -72,7 +93,10 @@ impl<'a, G: Algebra> Edit<'a, G> {
     }
 
     // A term up to its parts, which are still to be written.
-    fn write_opening<'b>(&self, term: Term<'b>, writer: &mut BitWriter) -> Result<Parts<'b>, Full> {
+    fn write_opening<'b>(&self, term: Term<'b>, writer: &mut BitWriter) -> Result<Parts<'b>, Full>
+        ensures writes { Narrow self.now.sorts.now → KindFits self.now.sorts.now (kind_shown term.entry) → Writes (kind_bits (on_parameter (kind_by self.now.sorts.now self.now.change.now) (kind_shown term.entry))) writer.old writer.new result }
+        ensures parts { IfOk result (λ ps. ps ≡ parts_shown term.entry) }
+    {
         let (kind, parts) = match term {
             Term::Parameter(n) => {
                 self.write_parameter(n as usize, writer)?;
@@ -102,7 +126,9 @@ impl<'a, G: Algebra> Edit<'a, G> {
     }
 
     // The term at the view, which has depth at most `depth`.
-    fn write_view(&self, view: View, depth: u8, writer: &mut BitWriter) -> Result<(), Full> {
+    fn write_view(&self, view: View, depth: u8, writer: &mut BitWriter) -> Result<(), Full>
+        ensures { (t : Tree) (vs : List ℕ) (s : ℕ) → Narrow self.now.sorts.now → Fits (G.meaning self.now.accepted.now.alg.now) (record { parameters = self.now.sorts.now; variables = vs }) depth s t → standing (G.meaning self.now.accepted.now.alg.now) depth view.entry.bytes.now view.entry.at ≡ Some t → Writes (term_bits (term_by (G.meaning self.now.accepted.now.alg.now) self.now.plan.now self.now.sorts.now self.now.change.now t)) writer.old writer.new result }
+    {
         if depth == 0 {
             return Err(Full);
         }
@@ -126,7 +152,9 @@ impl<'a, G: Algebra> Edit<'a, G> {
     }
 
     // The term at the place.
-    pub(crate) fn write_term(&self, at: usize, writer: &mut BitWriter) -> Result<(), Full> {
+    pub(crate) fn write_term(&self, at: usize, writer: &mut BitWriter) -> Result<(), Full>
+        ensures { (t : Tree) (vs : List ℕ) (s : ℕ) → Narrow self.now.sorts.now → Fits (G.meaning self.now.accepted.now.alg.now) (record { parameters = self.now.sorts.now; variables = vs }) greatest_depth s t → standing (G.meaning self.now.accepted.now.alg.now) greatest_depth self.now.accepted.now.file.now at ≡ Some t → Writes (term_bits (term_by (G.meaning self.now.accepted.now.alg.now) self.now.plan.now self.now.sorts.now self.now.change.now t)) writer.old writer.new result }
+    {
         self.write_view(self.accepted.view(at), DEPTH, writer)
     }
 }
