@@ -1,1 +1,2 @@
 pub mod TermBits
+pub mod Numbering
