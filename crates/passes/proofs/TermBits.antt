@@ -1,5 +1,5 @@
 -- Writing piece by piece, and what is written of a term.
-use Rattle.std.proofs.Common.{◌≡◌, ℕ, zero, suc, ◌-◌, ◌<◌, ◌≤◌, Bool, true, false, ltb, List, [], ◌∷◌, ◌++◌, replicate, slice_index_or, Some, None, Option, Ok, Err, Result, refl, sym, ap, ◌∙◌, subst, sub-one, arith}
+use Rattle.std.proofs.Common.{◌≡◌, ℕ, zero, suc, ◌-◌, ◌<◌, Bool, true, false, ltb, List, [], ◌++◌, replicate, slice_index_or, Some, None, Option, Ok, Err, Result, refl, sym, ap, ◌∙◌, subst, sub-one, arith}
 use Rattle.std.proofs.lemmas.Bool.{ltb-true, ltb-false}
 use Rattle.std.proofs.lemmas.List.{append-nil}
 use Rattle.std.proofs.lemmas.Result.{err_from_is_err_and}
@@ -7,7 +7,7 @@ use Rattle.std.specs.Option.{option_map}
 use Rattle.std.specs.Result.{IsErrAnd}
 use Rattle.definitions.specs.Lists.{bind, or_else, flat}
 use Rattle.definitions.specs.Alg.{Alg, Lawful}
-use Rattle.definitions.specs.Systems.{Kind, parameter, variable, value, operation, not, and, or, equal, Term, Terms, node, none, more, fold, folds, terms, term}
+use Rattle.definitions.specs.Systems.{Kind, parameter, variable, value, operation, not, and, or, equal, Term, Terms, node, none, more, folds, terms, term}
 use Rattle.definitions.specs.Values.{known}
 use Rattle.definitions.specs.Terms.{on_parameter, replaced}
 use Rattle.definitions.specs.Passes.{sort_of, folded_as, foldeds}
@@ -16,7 +16,7 @@ use Rattle.definitions.specs.ReadSystem.{Scope}
 use Rattle.definitions.specs.Fits.{Fits, fit_parameter, fit_variable, fit_value, fit_operation, fit_not, fit_and, fit_or, fit_equal, FitsArgs, fit_none, fit_more}
 use Rattle.algebra.specs.Lists.{some_inj, at_lt}
 use Rattle.terms.specs.declared.view.Parts.{Parts}
-use Rattle.terms.specs.declared.view.Parts.TheVariants.{Zero, One, Two, Three}
+use Rattle.terms.specs.declared.view.Parts.TheVariants.{One, Two}
 use Rattle.terms.specs.declared.view.Term.{Term as Read}
 use Rattle.terms.specs.declared.view.Term.TheVariants.{Parameter, Variable, Value, Operation, Not, And, Or, Equal}
 use Rattle.terms.specs.Shown.{cons, parts_of, term_of}
@@ -205,10 +205,11 @@ module _ (a : Alg) (b : Bool) (r : ℕ → Kind) (c : Scope) (d s : ℕ) (x : Re
       go true i =
           let k = value_there (λ v. (sort_of a (kind_shown x), v)) (known a [] t) (q, v) (sym e ∙ folds i) in
           let sort : q ≡ sort_of a (kind_shown x) = ap (λ p. p.0) k.2 in
-          let val : v ≡ k.0 = ap (λ p. p.1) k.2 in
-          (subst (λ n. n < 16) (sym sort) (sort_small a l c.parameters (kind_shown x) fitted.0),
+          let val : v ≡ k.0 = ap (λ p. p.1) k.2 in (
+            subst (λ n. n < 16) (sym sort) (sort_small a l c.parameters (kind_shown x) fitted.0),
             ap (λ y. bits_by a y r t) i ∙ ap (bits_by a true r) seen.1 ∙ bits_folded a r (kind_shown x) seen.0 k.0 (ap (known a []) (sym seen.1) ∙ k.1) ∙
-            ap (λ n. kind_bits (value n k.0)) (sym sort) ∙ ap (λ n. kind_bits (value q n)) (sym val))
+                ap (λ n. kind_bits (value n k.0)) (sym sort) ∙ ap (λ n. kind_bits (value q n)) (sym val),
+          )
 
   module _ (refused : (p : ℕ × ℕ) → f ≡ Some p → ⊥) where
     -- it does not: its kind is written first

@@ -2,7 +2,7 @@ use Rattle.std.proofs.Common.{◌++◌, arith}
 use Rattle.definitions.specs.Bits.{bits}
 use Rattle.definitions.specs.Systems.{value as value_kind}
 use Rattle.definitions.specs.Written.{kind_bits}
-use Rattle.bits.proofs.Left.{left_first, left_next, left_stop}
+use Rattle.bits.proofs.Left.{left_first, left_next}
 use Rattle.passes.proofs.TermBits.{left_last}
 use Rattle.passes.proofs.written.write_value.Goals as goal
 

@@ -34,7 +34,7 @@ returns-in_err-write_opening g t c = λ tree vs s narrow fits stands.
     let x = c.in_ok-term.term in
     let got : c.read_term.result ≡ Some x = search rules in
     handed_on _ (bits_by a b r tree) w c.write_opening.new.writer c.from_residual-in_err-write_opening.result c.from_residual-in_err-write_opening.ensures.1
-      (view_stopped a b r scope d s x tree got c.read_term.ensures.reads stands fits (λ on. c.folded.ensures.folds on tree stands) c.in_default.not-Some w (λ kind. c.in_err-write_opening.ensures.writes narrow kind))
+    (view_stopped a b r scope d s x tree got c.read_term.ensures.reads stands fits (λ on. c.folded.ensures.folds on tree stands) c.in_default.not-Some w (λ kind. c.in_err-write_opening.ensures.writes narrow kind))
 
 pub returns-in_err-write_view-in-Two : goal.returns-in_err-write_view-in-Two
 returns-in_err-write_view-in-Two g t c = λ tree vs s narrow fits stands.

@@ -1,6 +1,6 @@
-use Rattle.std.proofs.Common.{◌≡◌, ℕ, ◌++◌, [], arith, sym, subst}
+use Rattle.std.proofs.Common.{[], arith, sym, subst}
 use Rattle.definitions.specs.Bits.{bits}
-use Rattle.definitions.specs.Systems.{value, operation}
+use Rattle.definitions.specs.Systems.{operation}
 use Rattle.definitions.specs.Terms.{on_parameter}
 use Rattle.definitions.specs.Written.{kind_bits}
 use Rattle.terms.specs.declared.view.Term.{Term}
