@@ -6,7 +6,7 @@ use Rattle.passes.specs.declared.plan.ParameterChange.{ParameterChange}
 use Rattle.passes.specs.declared.plan.ParameterChange.TheVariants.{Stays, Goes, Becomes}
 use Rattle.passes.specs.declared.plan.EquationChange.{EquationChange}
 use Rattle.passes.specs.declared.plan.EquationChange.TheVariants as equation
-use Rattle.definitions.specs.Systems.{parameter, value}
+use Rattle.definitions.specs.Systems.{Kind, parameter, value}
 use Rattle.passes.specs.declared.plan.Change.{Change}
 use Rattle.passes.specs.Planned.{stays, remains, mask, kind_by}
 
@@ -43,16 +43,26 @@ remains_same true equation.Stays h = refl
 remains_same true equation.Bare h = refl
 remains_same true equation.Goes h = absurd (h refl)
 
-module _ (ss : List ℕ) (c : Change) (n : ℕ) (p : ParameterChange) (e : slice_index_or c.parameters n Goes ≡ p) where
-  -- a parameter with a value
-  pub kind_becomes : (v : ℕ) → p ≡ Becomes v → kind_by ss c n ≡ value (slice_index ss n) v
-  kind_becomes v i = ap (λ (p : ParameterChange). elim p [ Becomes v ↦ value (slice_index ss n) v | Stays ↦ parameter (place (mask c) n) | Goes ↦ parameter (place (mask c) n) ]) (e ∙ i)
+module _ (ss : List ℕ) (c : Change) (n : ℕ) where
+  abbrev kind_at : ParameterChange → Kind
+  kind_at (Becomes v) = value (slice_index ss n) v
+  kind_at Stays = parameter (place (mask c) n)
+  kind_at Goes = parameter (place (mask c) n)
 
-  -- a parameter with none
-  pub kind_numbered : ((v : ℕ) → p ≡ Becomes v → ⊥) → kind_by ss c n ≡ parameter (place (mask c) n)
-  kind_numbered not = ap (λ (p : ParameterChange). elim p [ Becomes v ↦ value (slice_index ss n) v | Stays ↦ parameter (place (mask c) n) | Goes ↦ parameter (place (mask c) n) ]) e ∙ go p not
+  kind_is : (p : ParameterChange) → slice_index_or c.parameters n Goes ≡ p → kind_by ss c n ≡ kind_at p
+  kind_is p e = go (slice_index_or c.parameters n Goes) ∙ ap kind_at e
     where
-      go : (p : ParameterChange) → ((v : ℕ) → p ≡ Becomes v → ⊥) → elim p [ Becomes v ↦ value (slice_index ss n) v | Stays ↦ parameter (place (mask c) n) | Goes ↦ parameter (place (mask c) n) ] ≡ parameter (place (mask c) n)
-      go Stays not = refl
-      go Goes not = refl
-      go (Becomes v) not = absurd (not v refl)
+      go : (p : ParameterChange) → elim p [ Becomes v ↦ value (slice_index ss n) v | Stays ↦ parameter (place (mask c) n) | Goes ↦ parameter (place (mask c) n) ] ≡ kind_at p
+      go Stays = refl
+      go Goes = refl
+      go (Becomes v) = refl
+
+  -- a parameter with a value
+  pub kind_becomes : (v : ℕ) → slice_index_or c.parameters n Goes ≡ Becomes v → kind_by ss c n ≡ value (slice_index ss n) v
+  kind_becomes v e = kind_is (Becomes v) e
+
+  -- one with none
+  pub kind_numbered : (p : ParameterChange) → slice_index_or c.parameters n Goes ≡ p → ((v : ℕ) → p ≡ Becomes v → ⊥) → kind_by ss c n ≡ parameter (place (mask c) n)
+  kind_numbered Stays e others = kind_is Stays e
+  kind_numbered Goes e others = kind_is Goes e
+  kind_numbered (Becomes v) e others = absurd (others v refl)

@@ -47,15 +47,15 @@ none_known (suc n) (suc k) = none_known n k
 pub none_alike : {xs : List (Option ℕ)} (n : ℕ) → xs ≡ replicate n None → Alike xs []
 none_alike n e = λ k. ap (λ (xs : List (Option ℕ)). slice_index_or xs k None) e ∙ none_known n k
 
-pub no_value : {A B : Type 0} (f : A → B) (o : Option A) → option_map f o ≡ None → o ≡ None
+no_value : {A B : Type 0} (f : A → B) (o : Option A) → option_map f o ≡ None → o ≡ None
 no_value f None e = refl
 no_value f (Some x) e = absurd cc
 
-pub value_there : {A B : Type 0} (f : A → B) (o : Option A) (y : B) → Some y ≡ option_map f o → (x : A) × (o ≡ Some x) × (y ≡ f x)
+value_there : {A B : Type 0} (f : A → B) (o : Option A) (y : B) → Some y ≡ option_map f o → (x : A) × (o ≡ Some x) × (y ≡ f x)
 value_there f None y e = absurd cc
 value_there f (Some x) y e = (x, refl, some_inj y (f x) e)
 
-pub none_where : {A : Type 0} (o : Option A) → ((x : A) → o ≡ Some x → ⊥) → o ≡ None
+none_where : {A : Type 0} (o : Option A) → ((x : A) → o ≡ Some x → ⊥) → o ≡ None
 none_where None h = refl
 none_where (Some x) h = absurd (h x refl)
 
@@ -64,7 +64,7 @@ module _ (a : Alg) (b : Bool) (r : ℕ → Kind) where
   abbrev pub bits_by : Term → List ℕ
   bits_by t = term_bits (replaced r (folded_if b a t))
 
-  abbrev pub parts_by : Terms → List ℕ
+  abbrev parts_by : Terms → List ℕ
   parts_by none = []
   parts_by (more t ts) = bits_by t ++ parts_by ts
 
@@ -83,12 +83,12 @@ parts_folded a r none = refl
 parts_folded a r (more t ts) = ap (λ xs. bits_by a true r t ++ xs) (parts_folded a r ts)
 
 -- a term that does not fold: its kind, and its parts
-pub bits_opened : (a : Alg) (b : Bool) (r : ℕ → Kind) (k : Kind) (ts : Terms) → (b ≡ true → known a [] (node k ts) ≡ None) → bits_by a b r (node k ts) ≡ kind_bits (on_parameter r k) ++ parts_by a b r ts
+bits_opened : (a : Alg) (b : Bool) (r : ℕ → Kind) (k : Kind) (ts : Terms) → (b ≡ true → known a [] (node k ts) ≡ None) → bits_by a b r (node k ts) ≡ kind_bits (on_parameter r k) ++ parts_by a b r ts
 bits_opened a false r k ts h = ap (λ xs. kind_bits (on_parameter r k) ++ xs) (parts_plain a r ts)
 bits_opened a true r k ts h = ap (λ o. term_bits (replaced r (folded_as a k o (foldeds ts a)))) (h refl) ∙ ap (λ xs. kind_bits (on_parameter r k) ++ xs) (parts_folded a r ts)
 
 -- one that folds
-pub bits_folded : (a : Alg) (r : ℕ → Kind) (k : Kind) (ts : Terms) (v : ℕ) → known a [] (node k ts) ≡ Some v → bits_by a true r (node k ts) ≡ kind_bits (value (sort_of a k) v)
+bits_folded : (a : Alg) (r : ℕ → Kind) (k : Kind) (ts : Terms) (v : ℕ) → known a [] (node k ts) ≡ Some v → bits_by a true r (node k ts) ≡ kind_bits (value (sort_of a k) v)
 bits_folded a r k ts v e = ap (λ o. term_bits (replaced r (folded_as a k o (foldeds ts a)))) e ∙ append-nil (kind_bits (value (sort_of a k) v))
 
 -- a term as read is a node
@@ -96,7 +96,7 @@ mapped : (k : Kind) (o : Option Terms) (t : Term) → option_map (node k) o ≡ 
 mapped k None t e = absurd cc
 mapped k (Some ts) t e = (ts, sym (some_inj (node k ts) t e), refl)
 
-pub node_read : (a : Alg) (d : ℕ) (x : Read) (t : Term) → term_of a d x ≡ Some t → (ts : Terms) × (t ≡ node (kind_shown x) ts) × (parts_of a d (parts_shown x) ≡ Some ts)
+node_read : (a : Alg) (d : ℕ) (x : Read) (t : Term) → term_of a d x ≡ Some t → (ts : Terms) × (t ≡ node (kind_shown x) ts) × (parts_of a d (parts_shown x) ≡ Some ts)
 node_read a d (Parameter n) t e = (none, sym (some_inj (node (parameter n) none) t e), refl)
 node_read a d (Variable n) t e = (none, sym (some_inj (node (variable n) none) t e), refl)
 node_read a d (Value s v) t e = (none, sym (some_inj (node (value s v) none) t e), refl)
@@ -107,7 +107,7 @@ node_read a d (Or x y) t e = mapped or (parts_of a d (Two x y)) t e
 node_read a d (Equal x y) t e = mapped equal (parts_of a d (Two x y)) t e
 
 -- each of the terms fits at some sort
-abbrev pub AllFit : Alg → Scope → ℕ → Terms → Type 0
+abbrev AllFit : Alg → Scope → ℕ → Terms → Type 0
 AllFit a c d none = Unit {0}
 AllFit a c d (more t ts) = ((s : ℕ) × Fits a c d s t) × AllFit a c d ts
 
@@ -119,7 +119,7 @@ module _ (a : Alg) (c : Scope) where
   shallower : (d : ℕ) (ts : Terms) → AllFit a c d ts → AllFit a c (suc d - 1) ts
   shallower d ts h = rw sub-one h
 
-  pub fit_node : (d s : ℕ) (k : Kind) (ts : Terms) → Fits a c d s (node k ts) → KindFits c.parameters k × AllFit a c (d - 1) ts
+  fit_node : (d s : ℕ) (k : Kind) (ts : Terms) → Fits a c d s (node k ts) → KindFits c.parameters k × AllFit a c (d - 1) ts
   fit_node d s k ts (fit_parameter {s = q} {n = n} small e) = (at_lt c.parameters n q e, tt)
   fit_node d s k ts (fit_variable small e) = (small, tt)
   fit_node d s k ts (fit_value small low e l) = ((small, low), tt)
@@ -130,7 +130,7 @@ module _ (a : Alg) (c : Scope) where
   fit_node e s k ts (fit_equal {d = d} {s = q} {t = t} {u = u} f h) = (tt, shallower d (more t (more u none)) ((q, f), ((q, h), tt)))
 
 -- the sort of what folds is a number of four bits
-pub sort_small : (a : Alg) → Lawful a → (ss : List ℕ) (k : Kind) → KindFits ss k → sort_of a k < 16
+sort_small : (a : Alg) → Lawful a → (ss : List ℕ) (k : Kind) → KindFits ss k → sort_of a k < 16
 sort_small a l ss (parameter n) h = omega arith
 sort_small a l ss (variable n) h = omega arith
 sort_small a l ss (value s v) h = h.0
@@ -150,11 +150,11 @@ sort_small a l ss equal h = omega arith
 
 -- of the bits of a term those of some parts are left, which are the terms os
 module _ (a : Alg) (b : Bool) (r : ℕ → Kind) (c : Scope) (d : ℕ) where
-  abbrev pub PartsLeft : List ℕ → Option Terms → BitWriter → BitWriter → Type 0
+  abbrev PartsLeft : List ℕ → Option Terms → BitWriter → BitWriter → Type 0
   PartsLeft bs os old now = (ts : Terms) × (os ≡ Some ts) × AllFit a c d ts × Left bs (parts_by a b r ts) old now
 
   -- what is said of a part that fits and stands
-  abbrev pub OfPart : (List ℕ → Type 0) → Option Term → Type 0
+  abbrev OfPart : (List ℕ → Type 0) → Option Term → Type 0
   OfPart F o = (t : Term) (s : ℕ) → Fits a c d s t → o ≡ Some t → F (bits_by a b r t)
 
   cons_some : (o : Option Term) (os : Option Terms) (ts : Terms) → cons o os ≡ Some ts → (t : Term) × (us : Terms) × (o ≡ Some t) × (os ≡ Some us) × (ts ≡ more t us)
