@@ -12,7 +12,7 @@ fn number(bytes: &[u8], at: usize, width: u32) -> u32
     ensures { result ≡ bit_field bytes.now at width }
 {
     let end = at + width as usize;
-    let last = (end + 7) / 8;
+    let last = end.div_ceil(8);
     let mut all = 0u64;
     for byte in &bytes[at / 8..last] {
         all = (all << 8) + *byte as u64;

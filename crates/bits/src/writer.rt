@@ -29,7 +29,8 @@ fn put_number(bytes: &mut [u8], at: usize, value: u32, width: u32)
     ensures { bytes.new ≡ overwritten bytes.old at (bits_of width value) }
 {
     let end = at + width as usize;
-    for i in at / 8..(end + 7) / 8 {
+    // By number: it tells which of the bits lie in the byte.
+    for i in at / 8..end.div_ceil(8) {
         let from = at.max(8 * i);
         let to = end.min(8 * i + 8);
         let count = (to - from) as u32;

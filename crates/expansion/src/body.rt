@@ -18,13 +18,10 @@ fn meant<G: Algebra>(
     env: &Environment,
     occurrence: &OccurrenceAt,
 ) -> Instance {
-    let mut values = [0u8; 15];
-    for (value, argument) in values.iter_mut().zip(occurrence.arguments.as_slice()) {
-        *value = accepted.known(env, *argument).unwrap_or(0);
-    }
+    let values = accepted.argument_values(env, occurrence);
     Instance {
         equation: occurrence.target,
-        values,
+        values: values.map(|value| value.unwrap_or(0)),
     }
 }
 
@@ -100,16 +97,6 @@ fn write_quantified<G: Algebra>(
     Ok(())
 }
 
-// The values of the first parameters, and nothing of the quantified variables.
-fn environment_of(instance: &Instance, count: usize) -> Environment {
-    let mut env = Environment::unknown();
-    let parameters = env.parameters.iter_mut().zip(&instance.values);
-    for (parameter, value) in parameters.take(count) {
-        *parameter = Some(*value);
-    }
-    env
-}
-
 // The variable of an instance: its sign, its rank and its body.
 pub(crate) fn write_variable<G: Algebra>(
     accepted: &Accepted<G>,
@@ -121,6 +108,9 @@ pub(crate) fn write_variable<G: Algebra>(
     draft.put(equation.header.sign as u32, 1);
     draft.put(instance.equation as u32, 5);
     let body = accepted.open_body(equation.body).ok_or(Unfinished)?;
-    let env = environment_of(instance, equation.header.sorts.len());
+    let env = Environment {
+        parameters: instance.known(equation.header.sorts.len()),
+        variables: [None; 3],
+    };
     write_quantified(accepted, &equation.header.quantified, 0, env, body, draft)
 }

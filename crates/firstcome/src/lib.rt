@@ -34,7 +34,7 @@ impl<'a, T: PartialEq + Copy> FirstCome<'a, T> {
     pub fn find(&self, x: &T) -> Option<usize>
         ensures { MatchOption result (AllWithin (λ y. false ≡ T.eq y x.now) self.now.items.now 0 self.now.len) (λ i. (i < self.now.len) × HoldsAt (λ y. true ≡ T.eq y x.now) self.now.items.now i × AllWithin (λ y. false ≡ T.eq y x.now) self.now.items.now 0 i) }
     {
-        // By index: with `position` the sample of 4,096 instances takes half as long again.
+        // By index: with `position` a sample of 4,096 instances took about twice as long.
         let items = &*self.items;
         for i in 0..self.len {
             if items[i] == *x {

@@ -6,7 +6,7 @@ use algebra::Algebra;
 use faults::PassFault;
 use system::reading::Outline;
 use system::value::Environment;
-use system::walk::{Accepted, ClauseAt, OccurrenceAt};
+use system::walk::{Accepted, ClauseAt};
 
 /// The pass C.
 #[derive(Clone, Copy, PartialEq, Eq, Debug)]
@@ -71,19 +71,6 @@ impl Known {
     }
 }
 
-// The known values of the arguments.
-fn argument_values<G: Algebra>(
-    accepted: &Accepted<G>,
-    env: &Environment,
-    occurrence: &OccurrenceAt,
-) -> Values {
-    let mut values = [None; 15];
-    for (value, at) in values.iter_mut().zip(occurrence.arguments.as_slice()) {
-        *value = accepted.known(env, *at);
-    }
-    values
-}
-
 // Follows the occurrences of the clause, unless its guard is known false.
 fn follow_clause<G: Algebra>(
     accepted: &Accepted<G>,
@@ -96,7 +83,7 @@ fn follow_clause<G: Algebra>(
     }
     let occurrences = accepted.occurrences(clause).ok_or(Missing)?;
     for occurrence in occurrences.as_slice() {
-        let values = argument_values(accepted, env, occurrence);
+        let values = accepted.argument_values(env, occurrence);
         let target = occurrence.target as usize;
         knowledge[target] = knowledge[target].joined(values);
     }
@@ -145,12 +132,7 @@ fn know_start(outline: &Outline) -> [Known; 31] {
     let number = start.equation as usize;
     let mut knowledge = [Known::Unreached; 31];
     if let Some(equation) = outline.equations.as_slice().get(number) {
-        let mut values = [None; 15];
-        let known = values.iter_mut().zip(&start.values);
-        for (value, start) in known.take(equation.header.sorts.len()) {
-            *value = Some(*start);
-        }
-        knowledge[number] = Known::Fresh(values);
+        knowledge[number] = Known::Fresh(start.known(equation.header.sorts.len()));
     }
     knowledge
 }

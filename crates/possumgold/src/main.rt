@@ -112,10 +112,7 @@ fn answer(rt: &HostRuntime, input: &[u8]) -> Result<Verdict, Stopped> {
     settle(&mut table, &mut bench, table_file, system_file)?;
     print_settled(rt, bench.held())?;
     let heap = rt.alloc();
-    let nobody = Instance {
-        equation: 0,
-        values: [0; 15],
-    };
+    let nobody = Instance::default();
     let mut work = vec![in heap; nobody; 4096]?;
     let mut file = vec![in heap; 0u8; 65535]?;
     let mut truths = vec![in heap; 0u8; 4096]?;

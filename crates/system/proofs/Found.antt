@@ -69,10 +69,7 @@ module _ (a : Alg) (f : List ℕ) (short : length f ≤ 65536) where
   terms_placed c [] p ts q e =
       let i : ts ≡ [] = cc in
       let j : p ≡ q = cc in
-      ([], (ap (λ z. stood [] z) j, (sym (ap length i), λ k t h. let z : ◌≡◌ {A = ℕ} 0 1 = none_at k t (ap (λ z. at z k) (sym i) ∙ h) in absurd (omega arith))))
-    where
-      none_at : (k : ℕ) (t : Term) → None ≡ Some t → ◌≡◌ {A = ℕ} 0 1
-      none_at k t e = cc
+      ([], (ap (λ z. stood [] z) j, (sym (ap length i), λ k t h. let z : ◌≡◌ {A = Option Term} None (Some t) = ap (λ z. at z k) (sym i) ∙ h in absurd cc)))
   terms_placed c (s ∷ ss) p ts q e =
       let d = followed (read_of a c s f p) (λ y t. follow (one_by_one (read_of a c) ss f t) (λ ys u. next (y ∷ ys) u)) ts q e in
       let b = followed (one_by_one (read_of a c) ss f d.1.0) (λ ys u. next (d.0 ∷ ys) u) ts q d.1.1.1 in

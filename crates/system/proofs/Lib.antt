@@ -7,3 +7,4 @@ pub mod Behind
 pub mod Records
 pub mod Outlines
 pub mod Found
+pub mod Knowns

@@ -25,8 +25,9 @@ impl Sign {
     }
 }
 
-#[derive(Clone, Copy, PartialEq, Eq, Debug)]
+#[derive(Clone, Copy, Default, PartialEq, Eq, Debug)]
 pub enum Quantifier {
+    #[default]
     Exists = 0,
     ForAll = 1,
 }
@@ -45,7 +46,7 @@ impl Quantifier {
 }
 
 /// A quantified variable.
-#[derive(Clone, Copy)]
+#[derive(Clone, Copy, Default)]
 pub struct Quantified {
     pub quantifier: Quantifier,
     pub sort: u8,
@@ -65,10 +66,7 @@ impl Header {
         Header {
             sign: Sign::Least,
             sorts: Row::new(0),
-            quantified: Row::new(Quantified {
-                quantifier: Quantifier::Exists,
-                sort: 0,
-            }),
+            quantified: Row::new(Quantified::default()),
         }
     }
 }

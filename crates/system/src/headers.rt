@@ -55,10 +55,7 @@ fn read_quantifieds<G: Algebra>(
     requires { count ≤ 3 }
     ensures { Reads (λ r. map kept_quantified (listed r)) (repeated (read_quantified (G.meaning alg.now)) count) cursor.old cursor.new result }
 {
-    let mut quantified = Row::new(Quantified {
-        quantifier: Quantifier::Exists,
-        sort: 0,
-    });
+    let mut quantified = Row::new(Quantified::default());
     for _ in 0..count {
         let variable = read_quantified(alg, cursor)?;
         quantified.push(variable).unwrap();

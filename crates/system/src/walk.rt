@@ -1,5 +1,5 @@
 //! Walking an accepted file: bodies, clauses and occurrences, with their terms as places.
-ghost use Rattle.std.specs.Prelude.{◌≡◌, ℕ, ◌^◌, ◌<◌, ◌≤◌, List, Option, length, IfSome};
+ghost use Rattle.std.specs.Prelude.{◌≡◌, ℕ, ◌^◌, ◌<◌, ◌≤◌, List, map, Option, length, IfSome};
 ghost use Rattle.definitions.specs.Lists.{bind};
 ghost use Rattle.definitions.specs.Systems.{fold};
 ghost use Rattle.definitions.specs.Reading.{next};
@@ -7,6 +7,7 @@ ghost use Rattle.definitions.specs.ReadSystem.{Scope, Sorted, greatest_depth, re
 ghost use Rattle.definitions.specs.Values.{kind_known};
 ghost use Rattle.terms.specs.Shapes.{standing};
 ghost use Rattle.terms.specs.Known.{Alike};
+ghost use Rattle.rows.specs.Listed.{listed};
 ghost use Rattle.system.specs.Whole.{kept_headers};
 ghost use Rattle.system.specs.Walks.{term_places, counted, clause_end, arguments_of, BodyPlaces, ClausePlaces, OccurrencePlaces, BodyFound, ClauseFound, OccurrenceFound, EndFound, in_row, occurrence_next, occurrences_of, OccurrencesPlaces, OccurrencesFound, ClausesPlaces, ClausesFound};
 
@@ -145,6 +146,18 @@ impl<'a, G: Algebra> Accepted<'a, G> {
     {
         let (occurrences, _) = self.occurrences_at(clause)?;
         Some(occurrences)
+    }
+
+    /// The known values of the occurrence's arguments.
+    pub fn argument_values(&self, env: &Environment, occurrence: &OccurrenceAt) -> [Option<u8>; 15]
+        ensures { (ps vs : List (Option ℕ)) → Alike env.now.parameters ps → Alike env.now.variables vs → Alike result (map (λ p. bind (standing (G.meaning self.now.alg.now) greatest_depth self.now.file.now p) (λ t. fold t (kind_known (G.meaning self.now.alg.now) ps vs))) (listed occurrence.now.arguments)) }
+    {
+        let mut values = [None; 15];
+        // By index: of what `iter_mut().zip(..)` has written a proof knows nothing afterwards.
+        for (i, at) in occurrence.arguments.as_slice().iter().enumerate() {
+            values[i] = self.known(env, *at);
+        }
+        values
     }
 
     /// The place behind the clause at the place.

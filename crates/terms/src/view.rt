@@ -38,7 +38,7 @@ pub struct Opening {
 /// The arguments of an operation.
 #[derive(Clone, Copy, PartialEq, Eq, Debug)]
 pub enum Parts<'a> {
-    // A case for each number: a library vector needs the heap, and a row would hold filler views.
+    // A case for each number: terms are copied, which the kit's vectors are not, and a row would hold filler views.
     Zero,
     One(View<'a>),
     Two(View<'a>, View<'a>),

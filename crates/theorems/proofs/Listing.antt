@@ -123,6 +123,10 @@ pub same_refl : (xs : List ℕ) → same xs xs ≡ true
 same_refl [] = refl
 same_refl (x ∷ xs) = ap₂ (λ p q. p && q) (eq-eqb x x refl) (same_refl xs)
 
+pub some_none : {A : Type 0} (p : A → Bool) (xs : List A) → ((x : A) → p x ≡ false) → some p xs ≡ false
+some_none p [] h = refl
+some_none p (x ∷ xs) h = ap (λ b. elim b [ true ↦ true | false ↦ some p xs ]) (h x) ∙ some_none p xs h
+
 -- lengths
 pub from_long : (k n : ℕ) → length (from k n) ≡ n
 from_long k zero = refl
