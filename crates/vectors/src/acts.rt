@@ -15,12 +15,6 @@ use system::instance::Instance;
 
 // The functions here have one shape, a call and what it came to; each call has arguments, results and faults of its own.
 
-// What work memory is filled with.
-const NOBODY: Instance = Instance {
-    equation: 0,
-    values: [0; 15],
-};
-
 // What the bench holds after a call that was obeyed.
 fn held_text(heap: Global, bench: &Bench) -> Result<String, AllocError> {
     let file = Shown(bench.held());
@@ -122,7 +116,7 @@ fn expansion_text<F: FnOnce(&mut [Instance], &mut [u8]) -> Result<Expansion, Exp
 ) -> Result<String, AllocError>
     requires { F.IsAlwaysCallable expanded }
 {
-    let mut work = vec![in heap; NOBODY; places]?;
+    let mut work = vec![in heap; Instance::default(); places]?;
     let mut buffer = vec![in heap; FILLING; room]?;
     match expanded(&mut work, &mut buffer) {
         Ok(expansion) => {
