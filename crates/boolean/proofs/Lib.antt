@@ -2,6 +2,7 @@ pub mod Signs
 pub mod Parts
 pub mod Entering
 pub mod Rounds
+pub mod Backwards
 pub mod Weights
 pub mod Merges
 pub mod Sweeping

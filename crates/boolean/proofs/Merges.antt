@@ -224,12 +224,13 @@ outermost h ss (Some a) b e k =
     found (x ∷ ss) zero s e = let j : x ≡ s = cc in (omega arith, j)
     found (x ∷ ss) (suc i) s e = let r = found ss i s e in (omega (arith, r.0), r.1)
 
-pub merged_none : (ss : List (Option KeptSign)) (all : Blocks) → length all.ranks ≡ 32 → listed all.signs ≡ [] → ((r : ℕ) → r < 32 → get_or all.ranks r 0 ≡ 32) → Merged ss 0 all
-merged_none ss all lr c h =
-    record {
+pub merged_none : (ss : List (Option KeptSign)) (k : ℕ) (all : Blocks) → k ≡ 0 → length all.ranks ≡ 32 → listed all.signs ≡ [] → ((r : ℕ) → r < 32 → get_or all.ranks r 0 ≡ 32) → Merged ss k all
+merged_none ss k all n lr c h =
+    subst (λ (k : ℕ). Merged ss k all) (sym n)
+    (record {
       long_ranks = lr;
       few = let z : length (listed all.signs) ≡ 0 = ap length c in omega arith;
       free = λ r l. h r (omega arith);
       placed = λ r l. inl (h r l);
       alike = λ vs d e. ap (λ (zs : List KeptSign). solve order.truths (variable_body vs) (blocks_below vs all.ranks zs (length zs)) e) (sym c);
-    }
+    })

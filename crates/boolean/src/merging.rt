@@ -30,9 +30,8 @@ pub(crate) fn blocks_of(signs: &[Option<Sign>; 32]) -> Blocks
         // A rank that no variable has is in no block.
         ranks: [32; 32],
     };
-    // The step asks for the rank as a number; a range backwards has a rule of its own in proofs, an iterator turned about has none.
-    for rank in (0..32).rev() {
-        if let Some(sign) = signs[rank] {
+    for (rank, sign) in signs.iter().enumerate().rev() {
+        if let Some(sign) = *sign {
             put_rank(&mut all, rank, sign);
         }
     }

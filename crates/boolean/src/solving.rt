@@ -1,5 +1,5 @@
 //! Solving a Boolean file: the nested least and greatest solution, block by block.
-ghost use Rattle.std.specs.Prelude.{◌≡◌, ◌<◌, ◌≤◌, true, false, ◌++◌, map, length, drop, ◌==◌, slice_index};
+ghost use Rattle.std.specs.Prelude.{◌≡◌, ◌<◌, ◌≤◌, true, false, ◌++◌, map, length, drop, ◌==◌, slice_index, slice_index_or};
 ghost use Rattle.rows.specs.Listed.{listed};
 ghost use Rattle.definitions.specs.Algebras.{truth as byte_of};
 ghost use Rattle.definitions.specs.Solution.{put, edge};
@@ -50,16 +50,22 @@ impl<'a> Solver<'a> {
     }
 
     // Moves the truth of the variable, if it is in the block and its body says so; tells whether it moved.
-    fn visit(&self, k: usize, v: usize, to: bool, truths: &mut [bool; VARIABLES]) -> bool
+    fn visit(
+        &self,
+        k: usize,
+        v: usize,
+        entry: &Entry,
+        to: bool,
+        truths: &mut [bool; VARIABLES],
+    ) -> bool
         requires few { v < length (listed self.now.variables.now.entries) }
+        requires its { entry.now ≡ slice_index_or (listed self.now.variables.now.entries) v entry.now }
         ensures { Visited to (body self.now) (inside self.now k) v truths.old truths.new result }
     {
         // A truth that has moved stays.
         if truths[v] == to {
             return false;
         }
-        let entries = self.variables.entries.as_slice();
-        let entry = &entries[v];
         if !self.belongs(k, entry) {
             return false;
         }
@@ -67,8 +73,9 @@ impl<'a> Solver<'a> {
             bytes: self.file,
             at: entry.body as usize,
         };
+        let count = self.variables.entries.as_slice().len() as u32;
         // An accepted file's bodies are read; the answer is no Result, so `?` cannot say it.
-        let Ok(truth) = read_body(&mut cursor, entries.len() as u32, truths, BODY_DEPTH) else {
+        let Ok(truth) = read_body(&mut cursor, count, truths, BODY_DEPTH) else {
             return false;
         };
         if truth != to {
@@ -85,9 +92,8 @@ impl<'a> Solver<'a> {
     {
         let to = moves_to(self.blocks.signs.as_slice()[k]);
         let mut changed = false;
-        // The truths are written while the variables are visited, so no iterator can hold them.
-        for v in (0..self.variables.entries.as_slice().len()).rev() {
-            if self.visit(k, v, to, truths) {
+        for (v, entry) in self.variables.entries.as_slice().iter().enumerate().rev() {
+            if self.visit(k, v, entry, to, truths) {
                 changed = true;
             }
         }

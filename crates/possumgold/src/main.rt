@@ -95,7 +95,7 @@ fn decide(
     })
 }
 
-// The line of the settled file.
+// The line of the settled file: all its bytes in hexadecimal, where `vectors` prints a check sum of many.
 fn print_settled(rt: &HostRuntime, file: &[u8]) -> io::Result<()> {
     let mut line = String::from_str(rt.alloc(), "SETTLED ")?;
     for byte in file {
@@ -121,7 +121,7 @@ fn answer(rt: &HostRuntime, input: &[u8]) -> Result<Verdict, Stopped> {
 }
 
 fn main(rt: HostRuntime) -> io::Result<()> {
-    // Each program reads all of its input and answers it; what it reads and prints is its own.
+    // Each program begins with these two lines: it reads all of its input. What it makes of that is its own.
     let mut input = Vec::new(rt.alloc());
     rt.stdin().read_to_end(&mut input)?;
     match answer(&rt, &input) {

@@ -13,13 +13,7 @@ use std::alloc::{AllocError, Global};
 use std::io;
 use system::instance::Instance;
 
-// Each call has arguments, results and faults of its own, so the functions here share a shape and no line.
-
-// What work memory is filled with.
-const NOBODY: Instance = Instance {
-    equation: 0,
-    values: [0; 15],
-};
+// The functions here have one shape, a call and what it came to; each call has arguments, results and faults of its own.
 
 // What the bench holds after a call that was obeyed.
 fn held_text(heap: Global, bench: &Bench) -> Result<String, AllocError> {
@@ -113,19 +107,24 @@ pub fn settle<G: Algebra>(heap: Global, desk: &mut Desk, alg: &G) -> Result<Stri
     }
 }
 
-// What an expansion into a buffer came to.
-fn expansion_text(
+// What an expansion comes to, with work memory and buffer of the sizes given.
+fn expansion_text<F: FnOnce(&mut [Instance], &mut [u8]) -> Result<Expansion, ExpandFault>>(
     heap: Global,
-    outcome: Result<Expansion, ExpandFault>,
-    buffer: &[u8],
-) -> Result<String, AllocError> {
-    match outcome {
+    places: usize,
+    room: usize,
+    expanded: F,
+) -> Result<String, AllocError>
+    requires { F.IsAlwaysCallable expanded }
+{
+    let mut work = vec![in heap; Instance::default(); places]?;
+    let mut buffer = vec![in heap; FILLING; room]?;
+    match expanded(&mut work, &mut buffer) {
         Ok(expansion) => {
             let variables = expansion.variables;
-            let text = result_text(heap, buffer, expansion.len)?;
+            let text = result_text(heap, &buffer, expansion.len)?;
             format!(in heap; "{variables} variables, {text}")
         }
-        Err(fault) => buffer_kept(heap, refused(heap, fault.into())?, buffer),
+        Err(fault) => buffer_kept(heap, refused(heap, fault.into())?, &buffer),
     }
 }
 
@@ -137,13 +136,11 @@ pub fn expand<G: Algebra>(
     places: usize,
     room: usize,
 ) -> Result<String, AllocError> {
-    let mut work = vec![in heap; NOBODY; places]?;
-    let mut buffer = vec![in heap; FILLING; room]?;
-    let result = desk.bench.expand(alg, &mut work, &mut buffer);
-    if let Ok(expansion) = result {
-        desk.take(buffer.get(..expansion.len).unwrap_or(&buffer));
-    }
-    expansion_text(heap, result, &buffer)
+    expansion_text(heap, places, room, |work, buffer| {
+        let expansion = desk.bench.expand(alg, work, buffer)?;
+        desk.take(buffer.get(..expansion.len).unwrap_or(buffer));
+        Ok(expansion)
+    })
 }
 
 /// Expands the file, which no bench holds.
@@ -154,10 +151,9 @@ pub fn draw<G: Algebra>(
     places: usize,
     room: usize,
 ) -> Result<String, AllocError> {
-    let mut work = vec![in heap; NOBODY; places]?;
-    let mut buffer = vec![in heap; FILLING; room]?;
-    let result = expansion::expand(alg, desk.made(), &mut work, &mut buffer);
-    expansion_text(heap, result, &buffer)
+    expansion_text(heap, places, room, |work, buffer| {
+        expansion::expand(alg, desk.made(), work, buffer)
+    })
 }
 
 /// Solves the file, into a buffer of the length given.

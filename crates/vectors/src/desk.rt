@@ -19,7 +19,7 @@ pub struct Desk<'a> {
     pub chosen: Chosen,
     pub bench: Bench,
     pub file: &'a mut [u8],
-    // A place, no length: behind the last bit that was written, where the next fields go.
+    // How many bits the script made, which is where the next fields go; the file ends with the byte of the last.
     pub bits: usize,
 }
 

@@ -16,14 +16,21 @@ fn put_field(writer: &mut BitWriter, field: &str) {
     }
 }
 
-/// Writes fields `value:width` or `value:width*times` from the place on, and zeros up to the byte; the place behind the fields.
-pub fn put_fields(file: &mut [u8], at: usize, text: &str) -> usize {
+// Puts each word of the text from the place on, and zeros up to the byte; the place behind them.
+fn put_words<F: Fn(&mut BitWriter, &str)>(file: &mut [u8], at: usize, text: &str, put: F) -> usize
+    requires { F.IsAlwaysCallable put }
+{
     let mut writer = BitWriter { bytes: file, at };
-    for field in text.split_whitespace() {
-        put_field(&mut writer, field);
+    for word in text.split_whitespace() {
+        put(&mut writer, word);
     }
     let _ = writer.close();
     writer.at
+}
+
+/// Writes fields `value:width` or `value:width*times` from the place on, and zeros up to the byte; the place behind the fields.
+pub fn put_fields(file: &mut [u8], at: usize, text: &str) -> usize {
+    put_words(file, at, text, put_field)
 }
 
 /// Writes fields as often as the first word says.
@@ -36,11 +43,12 @@ pub fn put_again(file: &mut [u8], at: usize, text: &str) -> usize {
     at
 }
 
+// A byte in hexadecimal.
+fn put_byte(writer: &mut BitWriter, byte: &str) {
+    let _ = writer.put(u32::from_str_radix(byte, 16).unwrap_or(0), 8);
+}
+
 /// Writes bytes in hexadecimal from the first place on; the place behind them.
 pub fn put_hex(file: &mut [u8], text: &str) -> usize {
-    let mut writer = BitWriter { bytes: file, at: 0 };
-    for word in text.split_whitespace() {
-        let _ = writer.put(u32::from_str_radix(word, 16).unwrap_or(0), 8);
-    }
-    writer.at
+    put_words(file, 0, text, put_byte)
 }

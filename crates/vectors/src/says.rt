@@ -6,7 +6,7 @@ use std::{fmt, io};
 /// What a buffer is filled with before a call.
 pub const FILLING: u8 = 0xEE;
 
-/// Bytes in hexadecimal, or their count and check sum where they are many.
+/// Bytes in hexadecimal, or their count and check sum where they are many; `possumgold` prints all, however many.
 #[derive(Clone, Copy)]
 pub struct Shown<'a>(pub &'a [u8]);
 
@@ -35,7 +35,7 @@ fn check_sum(bytes: &[u8]) -> u32 {
     (high % 65521) * 65536 + low % 65521
 }
 
-/// A refusal: number, layer and place.
+/// A refusal: number, layer and place. `possumgold` and `solver` print theirs in capitals, and need no text of it.
 pub fn refused(heap: Global, fault: Fault) -> Result<String, AllocError> {
     format!(in heap; "refused {fault}")
 }
