@@ -1,1 +1,3 @@
 pub mod Masks
+pub mod Along
+pub mod Heads

@@ -48,13 +48,20 @@ fn write_staying(
     Ok(())
 }
 
-// Quantified variables.
-fn write_quantified(quantified: &[Quantified], writer: &mut BitWriter) -> Result<(), Full>
-    ensures { Every (λ (q : ReadQuantified). q.sort < 16) (map kept_quantified quantified.now) → Writes (flat (map quantified_bits (map kept_quantified quantified.now))) writer.old writer.new result }
+// A quantified variable.
+fn write_variable(variable: &Quantified, writer: &mut BitWriter) -> Result<(), Full>
+    ensures { variable.now.sort < 16 → Writes (quantified_bits (kept_quantified variable.now)) writer.old writer.new result }
 {
-    for variable in quantified {
-        writer.put(variable.quantifier as u32, 1)?;
-        writer.put(variable.sort as u32, 4)?;
+    writer.put(variable.quantifier as u32, 1)?;
+    writer.put(variable.sort as u32, 4)
+}
+
+// Quantified variables.
+fn write_variables(variables: &[Quantified], writer: &mut BitWriter) -> Result<(), Full>
+    ensures { Every (λ (q : ReadQuantified). q.sort < 16) (map kept_quantified variables.now) → Writes (flat (map quantified_bits (map kept_quantified variables.now))) writer.old writer.new result }
+{
+    for variable in variables {
+        write_variable(variable, writer)?;
     }
     Ok(())
 }
@@ -70,7 +77,7 @@ fn write_header(header: &Header, change: &Change, writer: &mut BitWriter) -> Res
         return writer.put(0, 2);
     }
     writer.put(header.quantified.len() as u32, 2)?;
-    write_quantified(header.quantified.as_slice(), writer)
+    write_variables(header.quantified.as_slice(), writer)
 }
 
 impl<'a, G: Algebra> Edit<'a, G> {
