@@ -1,6 +1,6 @@
 -- Loops that write one piece after another.
-use Rattle.std.proofs.Common.{◌≡◌, ℕ, ◌+◌, ◌<◌, ◌⊎◌, inl, inr, List, [], ◌∷◌, ◌++◌, map, length, drop, get_or, Ok, Err, Result, IsErr, sym, refl, ap, ◌∙◌, subst, add-one, arith, drop-cons}
-use Rattle.definitions.specs.Lists.{flat}
+use Rattle.std.proofs.Common.{◌≡◌, ℕ, ◌+◌, ◌<◌, ◌⊎◌, inl, inr, Bool, true, false, List, [], ◌∷◌, ◌++◌, map, length, drop, get_or, Ok, Err, Result, IsErr, sym, refl, ap, ◌∙◌, subst, add-one, arith, drop-cons}
+use Rattle.definitions.specs.Lists.{flat, strike, keep}
 use Rattle.bits.specs.declared.writer.BitWriter.{BitWriter}
 use Rattle.bits.specs.declared.writer.Full.{Full}
 use Rattle.bits.specs.Writes.{Wrote, NoRoom, Writes, Left}
@@ -114,3 +114,38 @@ module _ {X C Y : Type 0} (R : X → Y → Type 0) (p : C → Y → List ℕ) wh
       go : (length xs ≡ 0) ⊎ (length cs ≡ 0) → along p cs l.left ≡ []
       go (inl e) = ap (along p cs) (none_left R xs l.left e l.pairs) ∙ no_pieces p cs
       go (inr e) = no_partners p cs l.left e
+
+-- a piece of what is kept
+abbrev pub piece : {Y Z : Type 0} → (Z → List ℕ) → (Y → Z) → Bool → Y → List ℕ
+piece b f true y = b (f y)
+piece b f false y = []
+
+pub piece_yes : {Y Z : Type 0} (b : Z → List ℕ) (f : Y → Z) (k : Bool) (y : Y) → k ≡ true → piece b f k y ≡ b (f y)
+piece_yes b f true y e = refl
+piece_yes b f false y e = absurd cc
+
+pub piece_no : {Y Z : Type 0} (b : Z → List ℕ) (f : Y → Z) (k : Bool) (y : Y) → k ≡ false → piece b f k y ≡ []
+piece_no b f true y e = absurd cc
+piece_no b f false y e = refl
+
+-- pieces of what a mask keeps, of what a test keeps, and of all
+pub along_struck : {C Y Z : Type 0} (b : Z → List ℕ) (f : Y → Z) (g : C → Bool) (cs : List C) (ys : List Y) → along (λ c y. piece b f (g c) y) cs ys ≡ flat (map b (map f (strike (map g cs) ys)))
+along_struck b f g [] ys = refl
+along_struck b f g (c ∷ cs) [] = refl
+along_struck b f g (c ∷ cs) (y ∷ ys) = ap (λ zs. piece b f (g c) y ++ zs) (along_struck b f g cs ys) ∙ go (g c)
+  where
+    go : (k : Bool) → piece b f k y ++ flat (map b (map f (strike (map g cs) ys))) ≡ flat (map b (map f (strike (k ∷ map g cs) (y ∷ ys))))
+    go true = refl
+    go false = refl
+
+pub flat_kept : {Y Z : Type 0} (b : Z → List ℕ) (f : Y → Z) (g : Y → Bool) (ys : List Y) → flat (map (λ y. piece b f (g y) y) ys) ≡ flat (map b (map f (keep g ys)))
+flat_kept b f g [] = refl
+flat_kept b f g (y ∷ ys) = ap (λ zs. piece b f (g y) y ++ zs) (flat_kept b f g ys) ∙ go (g y)
+  where
+    go : (k : Bool) → piece b f k y ++ flat (map b (map f (keep g ys))) ≡ flat (map b (map f (elim k [ true ↦ y ∷ keep g ys | false ↦ keep g ys ])))
+    go true = refl
+    go false = refl
+
+pub flat_all : {Y Z : Type 0} (b : Z → List ℕ) (f : Y → Z) (ys : List Y) → flat (map (λ y. b (f y)) ys) ≡ flat (map b (map f ys))
+flat_all b f [] = refl
+flat_all b f (y ∷ ys) = ap (λ zs. b (f y) ++ zs) (flat_all b f ys)
