@@ -1,3 +1,4 @@
 pub mod Masks
 pub mod Along
 pub mod Heads
+pub mod Places

@@ -1,31 +1,18 @@
-use Rattle.std.proofs.Common.{◌≡◌, ℕ, ◌≤◌, ◌<◌, ◌^◌, ◌++◌, List, drop, filter, length, map, Some, Ok, Err, ◌+◌, ◌-◌, ◌*◌}
-use Rattle.definitions.specs.Lists.{flat, strike, place, keep}
-use Rattle.definitions.specs.Alg.{Alg}
-use Rattle.definitions.specs.Bits.{bits, packed}
-use Rattle.definitions.specs.Reading.{next}
-use Rattle.definitions.specs.ReadSystem.{Header as Heading}
-use Rattle.definitions.specs.ReadSystem.{scope, greatest_depth, read_body}
-use Rattle.definitions.specs.Systems.{Term as Tree}
-use Rattle.definitions.specs.Systems.{Quantified as ReadQuantified}
-use Rattle.definitions.specs.Systems.{Occurrence as ReadOccurrence}
-use Rattle.definitions.specs.Systems.{Clause as ReadClause}
-use Rattle.definitions.specs.Systems.{Equation as ReadEquation}
-use Rattle.definitions.specs.Systems.{System}
-use Rattle.definitions.specs.Written.{term_bits, header_bits, occurrence_bits, clause_bits, body_bits, system_bits, written}
-use Rattle.definitions.specs.Fits.{Every, HeaderFits, OccurrenceFits, ClauseFits, BodyFits, SystemFits, header_of}
-use Rattle.terms.specs.Shapes.{standing}
-use Rattle.bits.specs.Writes.{Writes}
-use Rattle.system.specs.Files.{kept_header, kept_quantified}
-use Rattle.system.specs.Whole.{kept_headers, Outlined}
-use Rattle.system.specs.Walks.{OccurrenceOf, ClauseOf, Pairs}
-use Rattle.rows.specs.Listed.{listed}
-use Rattle.passes.specs.declared.plan.Plan.{Plan as Planned}
-use Rattle.passes.specs.declared.plan.EquationChange.TheVariants.{Stays}
-use Rattle.passes.specs.Fronts.{Fronts}
-use Rattle.passes.specs.Planned.{stays as parameter_stays}
-use Rattle.passes.specs.Planned.{mask, remaining, change_of, term_by, occurrence_by, clause_by, clause_stays, equation_by, body_left, system_by, Narrow, Fitted}
-use Rattle.passes.specs.Rewrites.{quantified_bits, TermAt, OccurrenceThere, ClauseThere, HeaderThere, EquationThere, stays_at, changed}
+use Rattle.std.proofs.Common.{ℕ, List, drop}
+use Rattle.definitions.specs.Systems.{Occurrence}
+use Rattle.definitions.specs.Written.{occurrence_bits}
+use Rattle.bits.specs.declared.writer.BitWriter.{BitWriter}
+use Rattle.system.specs.Whole.{kept_headers}
+use Rattle.system.specs.Walks.{Pairs}
+use Rattle.passes.specs.Planned.{term_by, occurrence_by, Narrow}
+use Rattle.passes.specs.Rewrites.{OccurrenceThere}
+use Rattle.passes.proofs.Along.{Going}
 use Rattle.passes.proofs.written.Edit.write_occurrences.Given as goal
 
 abbrev pub invariant-loop-occurrence : goal.invariant-loop-occurrence
-invariant-loop-occurrence g l = ?
+invariant-loop-occurrence g l =
+    let a = g.G.Algebra.meaning l.self.accepted.now.alg.now in
+    (os : List Occurrence) (vs : List ℕ) → Narrow l.self.sorts.now →
+    let R = OccurrenceThere a (kept_headers l.self.accepted.now.outline.now) (record { parameters = l.self.sorts.now; variables = vs }) l.self.accepted.now.file.now in
+    let f = term_by a l.self.plan.now l.self.sorts.now l.self.change.now in
+    Pairs R l.occurrences os → Going R (λ (o : Occurrence). occurrence_bits (occurrence_by l.self.plan.now f o)) os (drop l.occurrence-index l.occurrences) l.fn.writer l.writer
