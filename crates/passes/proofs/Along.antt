@@ -1,11 +1,20 @@
 -- Loops that write one piece after another.
-use Rattle.std.proofs.Common.{◌≡◌, ℕ, ◌+◌, ◌<◌, ◌⊎◌, inl, inr, Bool, true, false, List, [], ◌∷◌, ◌++◌, map, length, drop, get_or, Ok, Err, Result, IsErr, sym, refl, ap, ◌∙◌, subst, add-one, arith, drop-cons}
+use Rattle.std.proofs.Common.{◌≡◌, ◌≢◌, MatchBool, ℕ, ◌+◌, ◌<◌, ◌⊎◌, inl, inr, Bool, true, false, List, [], ◌∷◌, ◌++◌, map, length, drop, get_or, Ok, Err, Result, IsErr, sym, refl, ap, ◌∙◌, subst, add-one, arith, drop-cons}
 use Rattle.definitions.specs.Lists.{flat, strike, keep}
+use Rattle.definitions.specs.Alg.{Alg}
+use Rattle.definitions.specs.Systems.{Equation}
+use Rattle.definitions.specs.Written.{body_bits}
 use Rattle.bits.specs.declared.writer.BitWriter.{BitWriter}
 use Rattle.bits.specs.declared.writer.Full.{Full}
 use Rattle.bits.specs.Writes.{Wrote, NoRoom, Writes, Left}
 use Rattle.bits.proofs.Left.{left_first, left_next, left_stop, left_end}
 use Rattle.system.specs.Walks.{Pairs}
+use Rattle.passes.specs.declared.plan.EquationChange.{EquationChange}
+use Rattle.passes.specs.declared.plan.EquationChange.TheVariants.{Stays, Bare, Goes}
+use Rattle.passes.specs.declared.plan.Change.{Change}
+use Rattle.passes.specs.declared.plan.Plan.{Plan}
+use Rattle.passes.specs.Planned.{remains, equation_by, body_left}
+use Rattle.passes.specs.Rewrites.{changed}
 use Rattle.passes.proofs.Masks.{left_none, left_same}
 
 -- the item of a loop over a slice, and what is behind it
@@ -149,3 +158,32 @@ flat_kept b f g (y ∷ ys) = ap (λ zs. piece b f (g y) y ++ zs) (flat_kept b f 
 pub flat_all : {Y Z : Type 0} (b : Z → List ℕ) (f : Y → Z) (ys : List Y) → flat (map (λ y. b (f y)) ys) ≡ flat (map b (map f ys))
 flat_all b f [] = refl
 flat_all b f (y ∷ ys) = ap (λ zs. b (f y) ++ zs) (flat_all b f ys)
+
+-- of equations that do not go, and of what is left of their bodies
+pub along_changed : (b : Equation → List ℕ) (f : Change → Equation → Equation) (cs : List Change) (es : List Equation) → along (λ (c : Change) (e : Equation). piece b (f c) (remains c.equation) e) cs es ≡ flat (map b (changed f cs es))
+along_changed b f [] es = refl
+along_changed b f (c ∷ cs) [] = refl
+along_changed b f (c ∷ cs) (e ∷ es) = ap (λ zs. piece b (f c) (remains c.equation) e ++ zs) (along_changed b f cs es) ∙ go (remains c.equation)
+  where
+    go : (k : Bool) → piece b (f c) k e ++ flat (map b (changed f cs es)) ≡ flat (map b (elim k [ true ↦ f c e ∷ changed f cs es | false ↦ changed f cs es ]))
+    go true = refl
+    go false = refl
+
+pub along_bodies : (a : Alg) (P : Plan) (cs : List Change) (es : List Equation) → along (body_left a P) cs es ≡ flat (map body_bits (changed (equation_by a P) cs es))
+along_bodies a P [] es = refl
+along_bodies a P (c ∷ cs) [] = refl
+along_bodies a P (c ∷ cs) (e ∷ es) = ap (λ zs. body_left a P c e ++ zs) (along_bodies a P cs es) ∙ go c.equation
+  where
+    go : (x : EquationChange) → body_left a P (record { equation = x; parameters = c.parameters }) e ++ flat (map body_bits (changed (equation_by a P) cs es)) ≡
+        flat (map body_bits (elim (remains x) [ true ↦ equation_by a P (record { equation = x; parameters = c.parameters }) e ∷ changed (equation_by a P) cs es | false ↦ changed (equation_by a P) cs es ]))
+    go Stays = refl
+    go Bare = refl
+    go Goes = refl
+
+pub remains_as : (b : Bool) (p : EquationChange) → MatchBool b (p ≢ Goes) (p ≡ Goes) → b ≡ remains p
+remains_as false Stays h = absurd cc
+remains_as false Bare h = absurd cc
+remains_as false Goes h = refl
+remains_as true Stays h = refl
+remains_as true Bare h = refl
+remains_as true Goes h = absurd (h refl)
