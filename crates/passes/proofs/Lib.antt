@@ -2,3 +2,4 @@ pub mod Masks
 pub mod Along
 pub mod Heads
 pub mod Places
+pub mod Equations
