@@ -3,3 +3,4 @@ pub mod Along
 pub mod Heads
 pub mod Places
 pub mod Equations
+pub mod Files
