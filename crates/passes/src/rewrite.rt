@@ -268,11 +268,7 @@ fn write_system<G: Algebra>(
 }
 
 // The file of the changed system in a buffer of its own, and its length.
-fn draft<G: Algebra>(
-    accepted: &Accepted<G>,
-    plan: &Plan,
-    buffer: &mut [u8],
-) -> Result<usize, Full>
+fn draft<G: Algebra>(accepted: &Accepted<G>, plan: &Plan, buffer: &mut [u8]) -> Result<usize, Full>
     ensures { (s : System) → length buffer.old ≤ 65536 → length accepted.now.file.now ≤ 65536 → Outlined (G.meaning accepted.now.alg.now) accepted.now.file.now s accepted.now.outline.now → SystemFits (G.meaning accepted.now.alg.now) s → elim result [ Ok n ↦ (n ≡ length (written (system_by (G.meaning accepted.now.alg.now) plan.now s))) × (n ≤ length buffer.old) × (buffer.new ≡ written (system_by (G.meaning accepted.now.alg.now) plan.now s) ++ drop n buffer.old) | Err _ ↦ length buffer.old < length (written (system_by (G.meaning accepted.now.alg.now) plan.now s)) ] }
 {
     let mut writer = BitWriter {

@@ -1,4 +1,4 @@
-use Rattle.std.proofs.Common.{◌≡◌, ℕ, ◌<◌, ◌^◌, ◌++◌, true, false, inl, inr, List, [], ◌∷◌, map, length, ◌⊎◌, subst, tests, sym, ap, ap₂, ◌∙◌, arith, rules}
+use Rattle.std.proofs.Common.{◌≡◌, ◌<◌, ◌^◌, true, false, inl, inr, length, ◌⊎◌, subst, tests, sym, ap, ap₂, ◌∙◌, rules}
 use Rattle.definitions.specs.Bits.{bits}
 use Rattle.definitions.specs.Fits.{Every}
 use Rattle.bits.proofs.Left.{left_first, left_next, left_end}
@@ -10,8 +10,7 @@ pub loop-number-init : goal.loop-number-init
 loop-number-init c = λ w h.
     let r = c.into_iter-number-iterator.result in
     let a : r.a.rest.now ≡ c.args.numbers.now = ap (λ z. z.a.rest.now) c.into_iter-number-iterator.ensures.into_iter_gives ∙ ap (λ z. z.rest.now) c.zip-number-items.ensures.first ∙ c.iter.ensures.rest in
-    let b : r.b.rest.now ≡ c.args.changes.now = search rules in
-    (
+    let b : r.b.rest.now ≡ c.args.changes.now = search rules in (
       subst (Every (λ n. n < 2 ^ c.args.width)) (sym a) h,
       left_same (sym (ap₂ (beside (bits c.args.width) stays) b a)) (left_first (beside (bits c.args.width) stays c.args.changes.now c.args.numbers.now) c.args.writer.now),
     )
@@ -51,7 +50,7 @@ loop-number-preserved c = λ w h.
     ((every_next (λ n. n < 2 ^ c.args.width) x d.0 i.0).1, left_same e i.1)
 
 pub returns : goal.returns
-returns c = λ w h. 
+returns c = λ w h.
     let f = bits c.args.width in
     let i = c.loop-number.invariant w h in
     let xs = c.loop-number.number-iterator.a.rest.now in

@@ -1,5 +1,4 @@
-use Rattle.std.proofs.Common.{◌≤◌, ◌<◌, ◌^◌, map}
-use Rattle.definitions.specs.Lists.{flat, strike}
+use Rattle.std.proofs.Common.{◌≤◌, ◌<◌, ◌^◌}
 use Rattle.definitions.specs.Bits.{bits}
 use Rattle.definitions.specs.Fits.{Every}
 use Rattle.bits.specs.Writes.{Left}

@@ -1,8 +1,6 @@
-use Rattle.std.proofs.Common.{◌≡◌, ℕ, ◌+◌, ◌<◌, [], ◌∷◌, map, drop, length, get_or, sym, refl, ap, ◌∙◌, subst, arith, add-one, drop_of_length-le}
+use Rattle.std.proofs.Common.{◌≡◌, ◌+◌, ◌<◌, ◌∷◌, map, drop, get_or, ap, arith, drop_of_length-le}
 use Rattle.definitions.specs.Lists.{flat}
 use Rattle.definitions.specs.Systems.{Quantified as ReadQuantified}
-use Rattle.definitions.specs.Fits.{Every}
-use Rattle.bits.specs.declared.writer.BitWriter.{BitWriter}
 use Rattle.system.specs.declared.header.Quantifier.TheVariants.{Exists}
 use Rattle.system.specs.declared.header.Quantified.{Quantified}
 use Rattle.system.specs.Files.{kept_quantified}

@@ -1,10 +1,8 @@
-use Rattle.std.proofs.Common.{ℕ, ◌<◌, map, drop}
+use Rattle.std.proofs.Common.{◌<◌, map, drop}
 use Rattle.definitions.specs.Lists.{flat}
 use Rattle.definitions.specs.Systems.{Quantified as ReadQuantified}
 use Rattle.definitions.specs.Fits.{Every}
-use Rattle.bits.specs.declared.writer.BitWriter.{BitWriter}
 use Rattle.bits.specs.Writes.{Left}
-use Rattle.system.specs.declared.header.Quantified.{Quantified}
 use Rattle.system.specs.Files.{kept_quantified}
 use Rattle.passes.specs.Rewrites.{quantified_bits}
 use Rattle.passes.proofs.rewrite.write_variables.Given as goal

@@ -52,11 +52,11 @@ loop-clause-preserved g c = λ ks vs short n p.
     let more = drop (i + 1) xs in
     elim c.if-stays.branch [
       | then-stays+in_ok-write_clause w ↦
-        subst (λ (now : BitWriter). Going R f ks more c.args.writer.now now) (sym w.writer-is)
-        (going_next R f x w.write_clause.new.writer e l (λ k h. wrote_same (sym (piece_yes clause_bits F (clause_stays a P k) k (sym (c.stays.ensures.read k h.found.guard) ∙ w.if-stays.true))) (w.in_ok-write_clause.ensures k vs h.end short n h.fits h.found)))
+          subst (λ (now : BitWriter). Going R f ks more c.args.writer.now now) (sym w.writer-is)
+          (going_next R f x w.write_clause.new.writer e l (λ k h. wrote_same (sym (piece_yes clause_bits F (clause_stays a P k) k (sym (c.stays.ensures.read k h.found.guard) ∙ w.if-stays.true))) (w.in_ok-write_clause.ensures k vs h.end short n h.fits h.found)))
       | else-stays w ↦
-        subst (λ (now : BitWriter). Going R f ks more c.args.writer.now now) (sym w.writer-is)
-        (going_skip R f x e l (λ k h. piece_no clause_bits F (clause_stays a P k) k (sym (c.stays.ensures.read k h.found.guard) ∙ w.if-stays.false)))
+          subst (λ (now : BitWriter). Going R f ks more c.args.writer.now now) (sym w.writer-is)
+          (going_skip R f x e l (λ k h. piece_no clause_bits F (clause_stays a P k) k (sym (c.stays.ensures.read k h.found.guard) ∙ w.if-stays.false)))
     ]
 
 pub returns : goal.returns
