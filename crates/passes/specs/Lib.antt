@@ -2,3 +2,4 @@ pub mod Fronts
 pub mod Letters
 pub mod Planned
 pub mod Plans
+pub mod Rewrites

@@ -1,4 +1,7 @@
 //! F: terms that have a known value though nothing is known become value terms.
+ghost use Rattle.std.specs.Prelude.{◌≡◌};
+ghost use Rattle.passes.specs.Rewrites.{false_at};
+
 use crate::Pass;
 use crate::plan::{EquationChange, Missing, Plan};
 use crate::rewrite::apply_planned;
@@ -12,7 +15,9 @@ use system::walk::Accepted;
 pub struct Fold {}
 
 // Whether the term at the place is known to be false though nothing is known.
-pub(crate) fn folds_to_false<G: Algebra>(accepted: &Accepted<G>, at: usize) -> bool {
+pub(crate) fn folds_to_false<G: Algebra>(accepted: &Accepted<G>, at: usize) -> bool
+    ensures { result ≡ false_at (G.meaning accepted.now.alg.now) accepted.now.file.now at }
+{
     accepted.known(&Environment::unknown(), at) == Some(0)
 }
 

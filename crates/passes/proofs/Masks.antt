@@ -1,0 +1,87 @@
+-- What a mask keeps, and writing it piece by piece.
+use Rattle.std.proofs.Common.{◌≡◌, ◌≢◌, MatchBool, ℕ, zero, suc, ◌≤◌, ◌⊎◌, inl, inr, Bool, true, false, List, [], ◌∷◌, ◌++◌, map, length, filter, Ok, Err, Result, IsErr, sym, refl, ap, ◌∙◌, subst, arith, append_assoc}
+use Rattle.std.proofs.lemmas.List.{append-nil}
+use Rattle.definitions.specs.Lists.{flat, strike, place, keep}
+use Rattle.definitions.specs.Fits.{Every}
+use Rattle.bits.specs.declared.writer.BitWriter.{BitWriter}
+use Rattle.bits.specs.declared.writer.Full.{Full}
+use Rattle.bits.specs.Writes.{Wrote, NoRoom, Writes, Left}
+use Rattle.bits.proofs.Left.{left_first, left_next, left_stop, left_end}
+use Rattle.system.specs.Walks.{Pairs}
+use Rattle.passes.specs.Planned.{stays}
+use Rattle.passes.specs.declared.plan.ParameterChange.{ParameterChange}
+use Rattle.passes.specs.declared.plan.ParameterChange.TheVariants.{Stays, Goes, Becomes}
+
+-- as many are kept as are counted
+pub struck_long : {A : Type 0} (ms : List Bool) (xs : List A) → length (strike ms xs) ≡ place ms (length xs)
+struck_long [] xs = refl
+struck_long (m ∷ ms) [] = refl
+struck_long (true ∷ ms) (x ∷ xs) = ap suc (struck_long ms xs)
+struck_long (false ∷ ms) (x ∷ xs) = struck_long ms xs
+
+pub place_within : (ms : List Bool) (n : ℕ) → place ms n ≤ n
+place_within [] n = omega arith
+place_within (m ∷ ms) zero = omega arith
+place_within (true ∷ ms) (suc n) = let h = place_within ms n in omega arith
+place_within (false ∷ ms) (suc n) = let h = place_within ms n in omega arith
+
+pub every_next : {A : Type 0} (P : A → Type 0) {xs ys : List A} (x : A) → xs ≡ x ∷ ys → Every P xs → P x × Every P ys
+every_next P x e h = subst (λ xs. Every P xs) e h
+
+pub every_strike : {A : Type 0} (P : A → Type 0) (ms : List Bool) (xs : List A) → Every P xs → Every P (strike ms xs)
+every_strike P [] xs h = tt
+every_strike P (m ∷ ms) [] h = tt
+every_strike P (true ∷ ms) (x ∷ xs) h = (h.0, every_strike P ms xs h.1)
+every_strike P (false ∷ ms) (x ∷ xs) h = every_strike P ms xs h.1
+
+pub every_map : {A B : Type 0} (P : A → Type 0) (Q : B → Type 0) (f : A → B) → ((x : A) → P x → Q (f x)) → (xs : List A) → Every P xs → Every Q (map f xs)
+every_map P Q f g [] h = tt
+every_map P Q f g (x ∷ xs) h = (g x h.0, every_map P Q f g xs h.1)
+
+pub every_more : {A : Type 0} (P Q : A → Type 0) → ((x : A) → P x → Q x) → (xs : List A) → Every P xs → Every Q xs
+every_more P Q g [] h = tt
+every_more P Q g (x ∷ xs) h = (g x h.0, every_more P Q g xs h.1)
+
+-- the last piece is written, or there is no room for it
+pub left_all : {T : Type 0} {bs : List ℕ} {old now : BitWriter} (cs : List ℕ) (new : BitWriter) (r : Result T Full) → Left bs cs old now → Writes cs now new r → Writes bs old new r
+left_all {bs = bs} {old = old} {now = now} cs new (Ok x) l w = left_end (left_next {rest = []} cs new (subst (λ (xs : List ℕ). Left bs xs old now) (sym (append-nil cs)) l) w)
+left_all {bs = bs} {old = old} {now = now} cs new (Err e) l w = left_stop cs [] (subst (λ (xs : List ℕ). Left bs xs old now) (sym (append-nil cs)) l) w
+
+-- where a piece has no room, nothing is written
+pub left_none : {T : Type 0} {bs : List ℕ} {old now : BitWriter} (cs rest : List ℕ) (new : BitWriter) (r : Result T Full) → IsErr r → Left bs (cs ++ rest) old now → NoRoom cs now → Writes bs old new r
+left_none cs rest new (Ok x) e l h = absurd cc
+left_none cs rest new (Err x) e l h = left_stop cs rest l h
+
+pub left_same : {bs rest more : List ℕ} {old now : BitWriter} → rest ≡ more → Left bs rest old now → Left bs more old now
+left_same {bs = bs} {old = old} {now = now} e l = subst (λ (xs : List ℕ). Left bs xs old now) e l
+
+pub wrote_same : {bs cs : List ℕ} {old now : BitWriter} → bs ≡ cs → Wrote bs old now → Wrote cs old now
+wrote_same {old = old} {now = now} e w = subst (λ (xs : List ℕ). Wrote xs old now) e w
+
+pub writes_same : {T : Type 0} {bs cs : List ℕ} (old now : BitWriter) (r : Result T Full) → bs ≡ cs → Writes bs old now r → Writes cs old now r
+writes_same old now r e w = subst (λ (xs : List ℕ). Writes xs old now r) e w
+
+-- what is left of a list whose members are written as f writes them, where only those with a yes of g beside them are
+module _ {X C : Type 0} (f : X → List ℕ) (g : C → Bool) where
+  abbrev pub beside : List C → List X → List ℕ
+  beside cs xs = flat (map f (strike (map g cs) xs))
+
+  pub beside_yes : (c : C) (cs : List C) (x : X) (xs : List X) → g c ≡ true → beside (c ∷ cs) (x ∷ xs) ≡ f x ++ beside cs xs
+  beside_yes c cs x xs e = ap (λ (b : Bool). flat (map f (strike (b ∷ map g cs) (x ∷ xs)))) e
+
+  pub beside_no : (c : C) (cs : List C) (x : X) (xs : List X) → g c ≡ false → beside (c ∷ cs) (x ∷ xs) ≡ beside cs xs
+  beside_no c cs x xs e = ap (λ (b : Bool). flat (map f (strike (b ∷ map g cs) (x ∷ xs)))) e
+
+  pub beside_end : (cs : List C) (xs : List X) → (length xs ≡ 0) ⊎ (length cs ≡ 0) → beside cs xs ≡ []
+  beside_end [] xs h = refl
+  beside_end (c ∷ cs) [] h = refl
+  beside_end (c ∷ cs) (x ∷ xs) (inl h) = absurd (omega arith)
+  beside_end (c ∷ cs) (x ∷ xs) (inr h) = absurd (omega arith)
+
+pub stays_as : (b : Bool) (p : ParameterChange) → MatchBool b (p ≡ Stays) (p ≢ Stays) → b ≡ stays p
+stays_as true Stays h = refl
+stays_as true Goes h = absurd cc
+stays_as true (Becomes v) h = absurd cc
+stays_as false Stays h = absurd (h refl)
+stays_as false Goes h = refl
+stays_as false (Becomes v) h = refl
