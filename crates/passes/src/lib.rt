@@ -6,6 +6,7 @@ ghost use Rattle.passes.specs.Fronts.{Fronts};
 
 pub mod constants;
 pub mod folding;
+mod laws;
 pub mod named;
 mod plan;
 pub mod redundant;
