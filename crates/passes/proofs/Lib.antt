@@ -9,3 +9,6 @@ pub mod Files
 pub mod PlanMasks
 pub mod PlanR
 pub mod PlanC
+pub mod PlanBasics
+pub mod PlanF
+pub mod PlanU
