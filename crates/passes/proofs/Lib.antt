@@ -4,3 +4,5 @@ pub mod Heads
 pub mod Places
 pub mod Equations
 pub mod Files
+pub mod TermBits
+pub mod Numbering

@@ -11,6 +11,7 @@ ghost use Rattle.definitions.specs.ReadSystem.{greatest_depth};
 ghost use Rattle.terms.specs.Shapes.{standing};
 ghost use Rattle.bits.specs.Writes.{Writes};
 ghost use Rattle.passes.specs.Planned.{kind_by, term_by, kind_shown, parts_shown, Narrow, KindFits};
+
 use crate::plan::{Change, ParameterChange, Plan};
 use algebra::Algebra;
 use bits::{BitWriter, Full};
