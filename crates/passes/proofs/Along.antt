@@ -1,5 +1,5 @@
 -- Loops that write one piece after another.
-use Rattle.std.proofs.Common.{◌≡◌, ◌≢◌, MatchBool, ℕ, ◌+◌, ◌<◌, ◌⊎◌, inl, inr, Bool, true, false, List, [], ◌∷◌, ◌++◌, map, length, drop, get_or, Ok, Err, Result, IsErr, sym, refl, ap, ◌∙◌, subst, add-one, arith, drop-cons}
+use Rattle.std.proofs.Common.{◌≡◌, ℕ, ◌+◌, ◌<◌, ◌⊎◌, inl, inr, Bool, true, false, List, [], ◌∷◌, ◌++◌, map, length, drop, get_or, Result, IsErr, sym, refl, ap, ◌∙◌, subst, add-one, arith, drop-cons}
 use Rattle.definitions.specs.Lists.{flat, strike, keep}
 use Rattle.definitions.specs.Alg.{Alg}
 use Rattle.definitions.specs.Systems.{Equation}
@@ -7,7 +7,7 @@ use Rattle.definitions.specs.Written.{body_bits}
 use Rattle.bits.specs.declared.writer.BitWriter.{BitWriter}
 use Rattle.bits.specs.declared.writer.Full.{Full}
 use Rattle.bits.specs.Writes.{Wrote, NoRoom, Writes, Left}
-use Rattle.bits.proofs.Left.{left_first, left_next, left_stop, left_end}
+use Rattle.bits.proofs.Left.{left_first, left_next, left_end}
 use Rattle.system.specs.Walks.{Pairs}
 use Rattle.passes.specs.declared.plan.EquationChange.{EquationChange}
 use Rattle.passes.specs.declared.plan.EquationChange.TheVariants.{Stays, Bare, Goes}
@@ -179,11 +179,3 @@ along_bodies a P (c ∷ cs) (e ∷ es) = ap (λ zs. body_left a P c e ++ zs) (al
     go Stays = refl
     go Bare = refl
     go Goes = refl
-
-pub remains_as : (b : Bool) (p : EquationChange) → MatchBool b (p ≢ Goes) (p ≡ Goes) → b ≡ remains p
-remains_as false Stays h = absurd cc
-remains_as false Bare h = absurd cc
-remains_as false Goes h = refl
-remains_as true Stays h = refl
-remains_as true Bare h = refl
-remains_as true Goes h = absurd (h refl)

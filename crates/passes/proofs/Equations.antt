@@ -1,5 +1,5 @@
 -- The equations of an outline beside those of its system, and with their changes.
-use Rattle.std.proofs.Common.{◌≡◌, ℕ, zero, suc, ◌+◌, Bool, true, false, List, [], ◌∷◌, map, length, Some, get_or, sym, refl, ap, ap₂, ◌∙◌, subst, add-zero, add-suc, suc-add, arith}
+use Rattle.std.proofs.Common.{◌≡◌, ℕ, zero, suc, ◌+◌, Bool, true, false, List, [], ◌∷◌, map, length, Some, get_or, sym, refl, ap, ap₂, ◌∙◌, add-zero, arith}
 use Rattle.definitions.specs.Lists.{at, map_from, strike}
 use Rattle.definitions.specs.Alg.{Alg}
 use Rattle.definitions.specs.Systems.{Equation}

@@ -1,7 +1,7 @@
 -- The headers of equations written anew.
-use Rattle.std.proofs.Common.{◌≡◌, ◌≢◌, ℕ, ◌<◌, MatchBool, Bool, true, false, List, [], ◌∷◌, ◌++◌, map, length, sym, refl, ap, ◌∙◌, arith}
+use Rattle.std.proofs.Common.{◌≡◌, ◌≢◌, ℕ, ◌<◌, MatchBool, Bool, true, false, List, [], ◌++◌, map, length, refl, arith}
 use denote.Enum.Declared.{tag_of}
-use Rattle.definitions.specs.Lists.{flat, strike, place}
+use Rattle.definitions.specs.Lists.{flat, strike}
 use Rattle.definitions.specs.Alg.{Alg}
 use Rattle.definitions.specs.Bits.{bits}
 use Rattle.definitions.specs.Systems.{Quantified, Equation}

@@ -1,16 +1,11 @@
 -- What a mask keeps, and writing it piece by piece.
-use Rattle.std.proofs.Common.{◌≡◌, ◌≢◌, MatchBool, ℕ, zero, suc, ◌≤◌, ◌⊎◌, inl, inr, Bool, true, false, List, [], ◌∷◌, ◌++◌, map, length, filter, Ok, Err, Result, IsErr, sym, refl, ap, ◌∙◌, subst, arith, append_assoc}
-use Rattle.std.proofs.lemmas.List.{append-nil}
-use Rattle.definitions.specs.Lists.{flat, strike, place, keep}
+use Rattle.std.proofs.Common.{◌≡◌, ℕ, zero, suc, ◌≤◌, ◌⊎◌, inl, inr, Bool, true, false, List, [], ◌∷◌, ◌++◌, map, length, Ok, Err, Result, IsErr, refl, ap, subst, arith}
+use Rattle.definitions.specs.Lists.{flat, strike, place}
 use Rattle.definitions.specs.Fits.{Every}
 use Rattle.bits.specs.declared.writer.BitWriter.{BitWriter}
 use Rattle.bits.specs.declared.writer.Full.{Full}
 use Rattle.bits.specs.Writes.{Wrote, NoRoom, Writes, Left}
-use Rattle.bits.proofs.Left.{left_first, left_next, left_stop, left_end}
-use Rattle.system.specs.Walks.{Pairs}
-use Rattle.passes.specs.Planned.{stays}
-use Rattle.passes.specs.declared.plan.ParameterChange.{ParameterChange}
-use Rattle.passes.specs.declared.plan.ParameterChange.TheVariants.{Stays, Goes, Becomes}
+use Rattle.bits.proofs.Left.{left_stop}
 
 -- as many are kept as are counted
 pub struck_long : {A : Type 0} (ms : List Bool) (xs : List A) → length (strike ms xs) ≡ place ms (length xs)
@@ -28,24 +23,9 @@ place_within (false ∷ ms) (suc n) = let h = place_within ms n in omega arith
 pub every_next : {A : Type 0} (P : A → Type 0) {xs ys : List A} (x : A) → xs ≡ x ∷ ys → Every P xs → P x × Every P ys
 every_next P x e h = subst (λ xs. Every P xs) e h
 
-pub every_strike : {A : Type 0} (P : A → Type 0) (ms : List Bool) (xs : List A) → Every P xs → Every P (strike ms xs)
-every_strike P [] xs h = tt
-every_strike P (m ∷ ms) [] h = tt
-every_strike P (true ∷ ms) (x ∷ xs) h = (h.0, every_strike P ms xs h.1)
-every_strike P (false ∷ ms) (x ∷ xs) h = every_strike P ms xs h.1
-
-pub every_map : {A B : Type 0} (P : A → Type 0) (Q : B → Type 0) (f : A → B) → ((x : A) → P x → Q (f x)) → (xs : List A) → Every P xs → Every Q (map f xs)
-every_map P Q f g [] h = tt
-every_map P Q f g (x ∷ xs) h = (g x h.0, every_map P Q f g xs h.1)
-
 pub every_more : {A : Type 0} (P Q : A → Type 0) → ((x : A) → P x → Q x) → (xs : List A) → Every P xs → Every Q xs
 every_more P Q g [] h = tt
 every_more P Q g (x ∷ xs) h = (g x h.0, every_more P Q g xs h.1)
-
--- the last piece is written, or there is no room for it
-pub left_all : {T : Type 0} {bs : List ℕ} {old now : BitWriter} (cs : List ℕ) (new : BitWriter) (r : Result T Full) → Left bs cs old now → Writes cs now new r → Writes bs old new r
-left_all {bs = bs} {old = old} {now = now} cs new (Ok x) l w = left_end (left_next {rest = []} cs new (subst (λ (xs : List ℕ). Left bs xs old now) (sym (append-nil cs)) l) w)
-left_all {bs = bs} {old = old} {now = now} cs new (Err e) l w = left_stop cs [] (subst (λ (xs : List ℕ). Left bs xs old now) (sym (append-nil cs)) l) w
 
 -- where a piece has no room, nothing is written
 pub left_none : {T : Type 0} {bs : List ℕ} {old now : BitWriter} (cs rest : List ℕ) (new : BitWriter) (r : Result T Full) → IsErr r → Left bs (cs ++ rest) old now → NoRoom cs now → Writes bs old new r
@@ -77,11 +57,3 @@ module _ {X C : Type 0} (f : X → List ℕ) (g : C → Bool) where
   beside_end (c ∷ cs) [] h = refl
   beside_end (c ∷ cs) (x ∷ xs) (inl h) = absurd (omega arith)
   beside_end (c ∷ cs) (x ∷ xs) (inr h) = absurd (omega arith)
-
-pub stays_as : (b : Bool) (p : ParameterChange) → MatchBool b (p ≡ Stays) (p ≢ Stays) → b ≡ stays p
-stays_as true Stays h = refl
-stays_as true Goes h = absurd cc
-stays_as true (Becomes v) h = absurd cc
-stays_as false Stays h = absurd (h refl)
-stays_as false Goes h = refl
-stays_as false (Becomes v) h = refl

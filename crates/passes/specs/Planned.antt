@@ -1,8 +1,8 @@
 -- What a plan makes of a system.
-use Rattle.std.specs.Prelude.{◌≡◌, ℕ, ◌<◌, ◌≤◌, Bool, true, false, not as flip, ◌||◌, List, [], map, length, Some, None, Option, Ok, Err, Result, slice_index, slice_index_or}
+use Rattle.std.specs.Prelude.{◌≡◌, ℕ, ◌<◌, ◌≤◌, Bool, true, false, not as flip, ◌||◌, List, [], map, length, Ok, Err, Result, slice_index, slice_index_or}
 use Rattle.faults.specs.declared.Reason.TheVariants.{ResultTooLong}
 use Rattle.faults.specs.declared.PassFault.TheVariants.{Declined}
-use Rattle.definitions.specs.Lists.{at, keep, map_from, strike, place}
+use Rattle.definitions.specs.Lists.{keep, map_from, strike, place}
 use Rattle.definitions.specs.Alg.{Alg}
 use Rattle.definitions.specs.Systems.{Kind, parameter, variable, value, operation, not, and, or, equal, Term, Occurrence, Clause, Equation, System}
 use Rattle.definitions.specs.Values.{known, is_false}

@@ -1,6 +1,6 @@
 -- What stands in a file where a system is written anew from it.
-use Rattle.std.specs.Prelude.{◌≡◌, ℕ, true, false, not as flip, Bool, ◌||◌, List, [], ◌∷◌, ◌++◌, map, length, Some}
-use Rattle.definitions.specs.Lists.{bind, flat, strike}
+use Rattle.std.specs.Prelude.{◌≡◌, ℕ, true, false, not as flip, Bool, ◌||◌, List, [], ◌∷◌, ◌++◌, Some}
+use Rattle.definitions.specs.Lists.{bind}
 use Rattle.definitions.specs.Alg.{Alg}
 use Rattle.definitions.specs.Bits.{bits}
 use Rattle.definitions.specs.Systems.{Term, Quantified, Occurrence, Clause, Equation}

@@ -1,8 +1,6 @@
-use Rattle.std.proofs.Common.{rules, ◌≡◌, ℕ, ◌<◌, ◌≤◌, ◌++◌, List, length, drop, slice_index, slice_index_or, Fits, w8, IsErr, Ok, Err, Result, refl, arith}
+use Rattle.std.proofs.Common.{rules, ℕ, slice_index_or, Fits, w8, refl, arith}
 use Rattle.std.proofs.lemmas.Result.{err_from_is_err_and}
-use Rattle.definitions.specs.Bits.{packed}
-use Rattle.definitions.specs.Written.{system_bits, written}
-use Rattle.bits.specs.declared.writer.Full.{Full}
+use Rattle.definitions.specs.Written.{system_bits}
 use Rattle.bits.specs.Back.{Bytes}
 use Rattle.passes.specs.Planned.{system_by}
 use Rattle.passes.proofs.Files.{system_are, packed_whole, packed_large}

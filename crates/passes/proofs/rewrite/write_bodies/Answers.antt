@@ -1,5 +1,4 @@
-use Rattle.std.proofs.Common.{◌≡◌, ℕ, ◌++◌, ◌⊎◌, inl, inr, List, map, length, sym, ap, subst, subst₂, ◌∙◌, rules}
-use Rattle.definitions.specs.Systems.{Equation}
+use Rattle.std.proofs.Common.{◌≡◌, ◌⊎◌, inl, inr, List, length, sym, ap, subst₂, ◌∙◌, rules}
 use Rattle.rows.specs.Listed.{listed}
 use Rattle.system.specs.declared.outline.Equation.{Equation as Told}
 use Rattle.system.specs.Whole.{kept_headers}

@@ -1,10 +1,8 @@
-use Rattle.std.proofs.Common.{ℕ, ◌≤◌, List, length}
+use Rattle.std.proofs.Common.{◌≤◌, List, length}
 use Rattle.definitions.specs.Systems.{Equation}
 use Rattle.rows.specs.Listed.{listed}
-use Rattle.system.specs.declared.outline.Equation.{Equation as Told}
 use Rattle.system.specs.Whole.{kept_headers}
 use Rattle.system.specs.Walks.{Pairs}
-use Rattle.passes.specs.declared.plan.Change.{Change}
 use Rattle.passes.specs.Planned.{body_left}
 use Rattle.passes.specs.Rewrites.{EquationThere}
 use Rattle.passes.proofs.Along.{Along}

@@ -1,17 +1,18 @@
-use Rattle.std.proofs.Common.{◌≡◌, ℕ, ◌≤◌, ◌<◌, List, [], ◌++◌, map, length, sym, refl, ap, ◌∙◌, subst, arith}
+use Rattle.std.proofs.Common.{◌≡◌, ℕ, ◌<◌, List, ◌++◌, sym, refl, ap, ◌∙◌, subst, arith}
 use Rattle.definitions.specs.Alg.{Alg}
 use Rattle.definitions.specs.Bits.{bits}
 use Rattle.definitions.specs.Systems.{value as value_kind, Equation}
 use Rattle.definitions.specs.ReadSystem.{Header}
 use Rattle.definitions.specs.Written.{kind_bits, body_bits}
-use Rattle.definitions.specs.Fits.{Every, SortFits, header_of}
+use Rattle.definitions.specs.Fits.{SortFits, header_of}
 use Rattle.bits.proofs.Left.{left_first, left_next}
 use Rattle.passes.specs.declared.plan.EquationChange.{EquationChange}
 use Rattle.passes.specs.declared.plan.EquationChange.TheVariants.{Stays, Bare}
 use Rattle.passes.specs.declared.plan.Change.{Change}
 use Rattle.passes.specs.declared.plan.Plan.{Plan}
 use Rattle.passes.specs.Planned.{equation_by, body_left, Narrow}
-use Rattle.passes.proofs.Masks.{every_more, left_all, writes_same}
+use Rattle.passes.proofs.TermBits.{left_last}
+use Rattle.passes.proofs.Masks.{every_more, writes_same}
 use Rattle.passes.proofs.rewrite.write_changed.Goals as goal
 
 abbrev bare_bits : List ℕ
@@ -28,7 +29,7 @@ returns-in_ok-write_value-in-Bare g c = λ e q short headers head fit read.
     let a = g.G.Algebra.meaning c.args.accepted.now.alg.now in
     let w = c.args.writer.now in
     let l1 = left_next {rest = bits 4 0} (kind_bits (value_kind 0 0)) c.write_value.new.writer (left_first bare_bits w) (c.in_ok-write_value-in-Bare.ensures (omega arith)) in
-    writes_same w c.put.new.self c.put.result (sym (bare_left a c.args.plan.now c.args.change.now e c.in-Bare.is)) (left_all (bits 4 0) c.put.new.self c.put.result l1 (c.put.ensures.writes (omega arith) (omega arith)))
+    writes_same w c.put.new.self c.put.result (sym (bare_left a c.args.plan.now c.args.change.now e c.in-Bare.is)) (left_last (bits 4 0) c.put.new.self c.put.result l1 (c.put.ensures.writes (omega arith) (omega arith)))
 
 pub returns-in-Stays : goal.returns-in-Stays
 returns-in-Stays g c = λ e q short headers head fit read.

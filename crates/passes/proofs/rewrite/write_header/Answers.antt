@@ -1,13 +1,13 @@
-use Rattle.std.proofs.Common.{rules, tests, ◌≡◌, ◌≢◌, MatchBool, true, false, ℕ, ◌<◌, ◌≤◌, ◌^◌, List, [], ◌++◌, map, length, sym, refl, ap, ◌∙◌, subst, arith}
+use Rattle.std.proofs.Common.{rules, tests, ◌≡◌, ℕ, ◌<◌, List, ◌++◌, map, length, sym, ap, ◌∙◌, subst, arith}
 use Rattle.std.proofs.lemmas.List.{append-nil, length-map}
 use denote.Enum.Declared.{tag_of}
 use Rattle.definitions.specs.Lists.{flat, strike, place}
 use Rattle.definitions.specs.Alg.{Alg}
 use Rattle.definitions.specs.Bits.{bits}
-use Rattle.definitions.specs.Systems.{Quantified, Equation}
+use Rattle.definitions.specs.Systems.{Quantified}
 use Rattle.definitions.specs.ReadSystem.{Header}
 use Rattle.definitions.specs.Written.{sign_bits}
-use Rattle.definitions.specs.Fits.{Every, SortFits, HeaderFits, header_of}
+use Rattle.definitions.specs.Fits.{Every, SortFits, HeaderFits}
 use Rattle.bits.specs.declared.writer.BitWriter.{BitWriter}
 use Rattle.bits.specs.Writes.{Wrote, NoRoom, Writes, Left}
 use Rattle.bits.proofs.Left.{left_first, left_next}
@@ -20,7 +20,8 @@ use Rattle.passes.specs.declared.plan.EquationChange.TheVariants.{Bare}
 use Rattle.passes.specs.declared.plan.Change.{Change}
 use Rattle.passes.specs.Planned.{mask}
 use Rattle.passes.specs.Rewrites.{quantified_bits}
-use Rattle.passes.proofs.Masks.{struck_long, place_within, every_more, left_all, left_none, left_same, wrote_same, writes_same}
+use Rattle.passes.proofs.TermBits.{left_last}
+use Rattle.passes.proofs.Masks.{struck_long, place_within, every_more, left_none, left_same, wrote_same, writes_same}
 use Rattle.passes.proofs.Heads.{sign_bit, sign_small, variables_bits, sorts_bits, head_bits, headed, is_bare, all_variables}
 use Rattle.passes.proofs.rewrite.write_header.Goals as goal
 
@@ -99,7 +100,7 @@ returns-then-eq c = λ a P e s k.
     let bare : ch.equation ≡ Bare = is_bare c.eq.result ch.equation (search (rules, tests)) c.if-eq.true in
     let l4 = left_same (ap (λ x. variables_bits x (kept_header h).quantified) bare) l3 in
     writes_same c.args.writer.now c.put-then-eq.new.self c.put-then-eq.result (sym all)
-    (left_all (bits 2 0) c.put-then-eq.new.self c.put-then-eq.result (left_same (append-nil (bits 2 0)) l4) (c.put-then-eq.ensures.writes (omega arith) (omega arith)))
+    (left_last (bits 2 0) c.put-then-eq.new.self c.put-then-eq.result (left_same (append-nil (bits 2 0)) l4) (c.put-then-eq.ensures.writes (omega arith) (omega arith)))
 
 pub returns-in_err-put-3 : goal.returns-in_err-put-3
 returns-in_err-put-3 c = λ a P e s k.
@@ -144,5 +145,5 @@ returns c = λ a P e s k.
     let small = every_more (λ (q : Quantified). SortFits a q.sort) (λ (q : Quantified). q.sort < 16) (λ q p. p.0) vs k.quantified in
     let w = c.write_variables in
     writes_same c.args.writer.now w.new.writer w.result (sym all)
-    (left_all (flat (map quantified_bits vs)) w.new.writer w.result l5
+    (left_last (flat (map quantified_bits vs)) w.new.writer w.result l5
     (subst (λ (qs : List KeptQuantified). Every (λ (q : Quantified). q.sort < 16) (map kept_quantified qs) → Writes (flat (map quantified_bits (map kept_quantified qs))) c.put-3.new.self w.new.writer w.result) c.as_slice-2.ensures w.ensures small))

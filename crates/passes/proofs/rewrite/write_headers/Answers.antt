@@ -1,6 +1,4 @@
-use Rattle.std.proofs.Common.{◌≡◌, ℕ, ◌++◌, true, false, ◌⊎◌, inl, inr, List, map, length, sym, ap, subst, subst₂, ◌∙◌, rules, tests}
-use Rattle.definitions.specs.Systems.{Equation}
-use Rattle.definitions.specs.ReadSystem.{Header}
+use Rattle.std.proofs.Common.{◌≡◌, ℕ, true, false, ◌⊎◌, inl, inr, List, length, sym, ap, subst, subst₂, ◌∙◌, rules, tests}
 use Rattle.definitions.specs.Written.{header_bits}
 use Rattle.definitions.specs.Fits.{HeaderFits}
 use Rattle.bits.specs.Writes.{NoRoom}
@@ -8,8 +6,9 @@ use Rattle.system.specs.declared.outline.Equation.{Equation as Told}
 use Rattle.passes.specs.declared.plan.Change.{Change}
 use Rattle.passes.specs.Planned.{remains, equation_by}
 use Rattle.passes.specs.Rewrites.{HeaderThere}
+use Rattle.passes.proofs.Numbering.{remains_same}
 use Rattle.passes.proofs.Masks.{wrote_same, writes_same}
-use Rattle.passes.proofs.Along.{Along, piece, piece_yes, piece_no, remains_as, along_changed, along_first, along_next, along_skip, along_stop, along_end}
+use Rattle.passes.proofs.Along.{Along, piece, piece_yes, piece_no, along_changed, along_first, along_next, along_skip, along_stop, along_end}
 use Rattle.passes.proofs.rewrite.write_headers.Goals as goal
 
 pub loop-equation-init : goal.loop-equation-init
@@ -29,7 +28,7 @@ loop-equation-preserved-in-Continue-1 c = λ a P es p.
     let d = c.in-Some.ensures.steps in
     let x = c.in-Some.equation.now in
     let ch = c.in-Some.change.now in
-    let yes : remains ch.equation ≡ true = sym (remains_as c.ne.result ch.equation (search (rules, tests))) ∙ c.if-ne.true in
+    let yes : remains ch.equation ≡ true = sym (remains_same c.ne.result ch.equation (search (rules, tests))) ∙ c.if-ne.true in
     along_next R k x ch c.write_header.new.writer d.0 d.1 (c.loop-equation.invariant a P es p)
     (λ e h. wrote_same (sym (piece_yes header_bits (equation_by a P ch) (remains ch.equation) e yes)) (c.in_ok-write_header.ensures a P e h.kept (subst (HeaderFits a) h.kept h.fits)))
 
@@ -40,7 +39,7 @@ returns-in_err-write_header c = λ a P es p.
     let d = c.in-Some.ensures.steps in
     let x = c.in-Some.equation.now in
     let ch = c.in-Some.change.now in
-    let yes : remains ch.equation ≡ true = sym (remains_as c.ne.result ch.equation (search (rules, tests))) ∙ c.if-ne.true in
+    let yes : remains ch.equation ≡ true = sym (remains_same c.ne.result ch.equation (search (rules, tests))) ∙ c.if-ne.true in
     let r = c.from_residual in
     writes_same c.args.writer.now c.write_header.new.writer r.result (along_changed header_bits (equation_by a P) c.args.changes.now es)
     (along_stop R k x ch c.write_header.new.writer r.result r.ensures.0 d.0 d.1 (c.loop-equation.invariant a P es p)
@@ -53,7 +52,7 @@ loop-equation-preserved c = λ a P es p.
     let d = c.in-Some.ensures.steps in
     let x = c.in-Some.equation.now in
     let ch = c.in-Some.change.now in
-    let no : remains ch.equation ≡ false = sym (remains_as c.ne.result ch.equation (search (rules, tests))) ∙ c.if-ne.false in
+    let no : remains ch.equation ≡ false = sym (remains_same c.ne.result ch.equation (search (rules, tests))) ∙ c.if-ne.false in
     along_skip R k x ch d.0 d.1 (c.loop-equation.invariant a P es p) (λ e h. piece_no header_bits (equation_by a P ch) (remains ch.equation) e no)
 
 pub returns : goal.returns

@@ -1,8 +1,7 @@
-use Rattle.std.proofs.Common.{ℕ, List}
+use Rattle.std.proofs.Common.{List}
 use Rattle.definitions.specs.Alg.{Alg}
 use Rattle.definitions.specs.Systems.{Equation}
 use Rattle.definitions.specs.Written.{header_bits}
-use Rattle.system.specs.declared.outline.Equation.{Equation as Told}
 use Rattle.system.specs.Walks.{Pairs}
 use Rattle.passes.specs.declared.plan.Change.{Change}
 use Rattle.passes.specs.declared.plan.Plan.{Plan}

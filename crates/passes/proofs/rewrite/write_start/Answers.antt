@@ -1,4 +1,4 @@
-use Rattle.std.proofs.Common.{◌≡◌, ℕ, ◌+◌, ◌-◌, ◌<◌, List, [], ◌∷◌, ◌++◌, map, length, take, replicate, Some, Option, sym, refl, ap, ◌∙◌, subst, arith}
+use Rattle.std.proofs.Common.{◌≡◌, ℕ, ◌-◌, ◌<◌, List, [], ◌∷◌, ◌++◌, map, length, take, replicate, Some, Option, refl, ap, ◌∙◌, subst, arith}
 use Rattle.definitions.specs.Lists.{at, flat, strike, place, or_else}
 use Rattle.definitions.specs.Alg.{Alg}
 use Rattle.definitions.specs.Bits.{bits}
@@ -9,10 +9,10 @@ use Rattle.bits.proofs.Left.{left_first, left_next}
 use Rattle.rows.specs.Listed.{listed, listed_within}
 use Rattle.system.specs.declared.outline.Equation.{Equation as Told}
 use Rattle.system.specs.Files.{kept_header}
-use Rattle.system.specs.Whole.{kept_headers}
 use Rattle.system.proofs.Lists.{at_item}
 use Rattle.passes.specs.Planned.{mask, remaining, change_of}
-use Rattle.passes.proofs.Masks.{place_within, left_all, left_none}
+use Rattle.passes.proofs.TermBits.{left_last}
+use Rattle.passes.proofs.Masks.{place_within, left_none}
 use Rattle.passes.proofs.rewrite.write_start.Goals as goal
 
 values_long : (a : Alg) (ss vs : List ℕ) → ValuesFit a ss vs → length ss ≡ length vs
@@ -67,4 +67,4 @@ returns g c = λ s o f.
     let values : take (c.len.result - 0) out.start.values ≡ s.values = ap (λ k. take k out.start.values) long ∙ ap (take (length s.values)) o.values ∙ front s.values (replicate (15 - length s.values) 0) in
     let y = c.write_staying in
     let bytes = subst (λ (vs : List ℕ). Every (λ n. n < 256) vs → Writes (flat (map (bits 8) (strike (mask (change_of P i)) vs))) c.put.new.self y.new.writer y.result) values (y.ensures (omega arith)) (values_small a f.header.sorts s.values f.values) in
-    left_all rest y.new.writer y.result l (subst (λ (k : ℕ). Writes (flat (map (bits 8) (strike (mask (change_of P k)) s.values))) c.put.new.self y.new.writer y.result) o.start bytes)
+    left_last rest y.new.writer y.result l (subst (λ (k : ℕ). Writes (flat (map (bits 8) (strike (mask (change_of P k)) s.values))) c.put.new.self y.new.writer y.result) o.start bytes)

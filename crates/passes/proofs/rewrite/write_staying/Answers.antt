@@ -3,7 +3,8 @@ use Rattle.definitions.specs.Bits.{bits}
 use Rattle.definitions.specs.Fits.{Every}
 use Rattle.bits.proofs.Left.{left_first, left_next, left_end}
 use Rattle.passes.specs.Planned.{stays}
-use Rattle.passes.proofs.Masks.{beside, beside_yes, beside_no, beside_end, every_next, stays_as, left_none, left_same}
+use Rattle.passes.proofs.Numbering.{stays_same}
+use Rattle.passes.proofs.Masks.{beside, beside_yes, beside_no, beside_end, every_next, left_none, left_same}
 use Rattle.passes.proofs.rewrite.write_staying.Goals as goal
 
 pub loop-number-init : goal.loop-number-init
@@ -22,7 +23,7 @@ loop-number-preserved-in-Continue-1 c = λ w h.
     let x = c.in-Some.number.now in
     let i = c.loop-number.invariant w h in
     let small = every_next (λ n. n < 2 ^ c.args.width) x d.0 i.0 in
-    let yes : stays c.in-Some.change.now ≡ true = sym (stays_as c.eq.result c.in-Some.change.now (search (rules, tests))) ∙ c.if-eq.true in
+    let yes : stays c.in-Some.change.now ≡ true = sym (stays_same c.eq.result c.in-Some.change.now (search (rules, tests))) ∙ c.if-eq.true in
     let e = ap₂ (beside f stays) d.1 d.0 ∙ beside_yes f stays c.in-Some.change.now c.next.new.self.b.rest.now x c.next.new.self.a.rest.now yes in
     (small.1, left_next (f x) c.put.new.self (left_same e i.1) (c.in_ok-put.ensures.writes w small.0))
 
@@ -35,7 +36,7 @@ returns-in_err-put c = λ w h.
     let cs = c.next.new.self.b.rest.now in
     let i = c.loop-number.invariant w h in
     let small = every_next (λ n. n < 2 ^ c.args.width) x d.0 i.0 in
-    let yes : stays c.in-Some.change.now ≡ true = sym (stays_as c.eq.result c.in-Some.change.now (search (rules, tests))) ∙ c.if-eq.true in
+    let yes : stays c.in-Some.change.now ≡ true = sym (stays_same c.eq.result c.in-Some.change.now (search (rules, tests))) ∙ c.if-eq.true in
     let e = ap₂ (beside f stays) d.1 d.0 ∙ beside_yes f stays c.in-Some.change.now cs x xs yes in
     left_none (f x) (beside f stays cs xs) c.put.new.self c.from_residual.result c.from_residual.ensures.0 (left_same e i.1) (c.in_err-put.ensures.writes w small.0)
 
@@ -45,7 +46,7 @@ loop-number-preserved c = λ w h.
     let d = c.in-Some.ensures.steps in
     let x = c.in-Some.number.now in
     let i = c.loop-number.invariant w h in
-    let no : stays c.in-Some.change.now ≡ false = sym (stays_as c.eq.result c.in-Some.change.now (search (rules, tests))) ∙ c.if-eq.false in
+    let no : stays c.in-Some.change.now ≡ false = sym (stays_same c.eq.result c.in-Some.change.now (search (rules, tests))) ∙ c.if-eq.false in
     let e = ap₂ (beside f stays) d.1 d.0 ∙ beside_no f stays c.in-Some.change.now c.next.new.self.b.rest.now x c.next.new.self.a.rest.now no in
     ((every_next (λ n. n < 2 ^ c.args.width) x d.0 i.0).1, left_same e i.1)
 

@@ -1,4 +1,4 @@
-use Rattle.std.proofs.Common.{◌≡◌, ℕ, ◌<◌, List, ◌++◌, map, length, sym, ap, ◌∙◌, subst, arith}
+use Rattle.std.proofs.Common.{◌≡◌, ℕ, List, ◌++◌, map, length, sym, ap, ◌∙◌, subst, arith}
 use Rattle.definitions.specs.Lists.{flat, map_from, strike, place}
 use Rattle.definitions.specs.Bits.{bits}
 use Rattle.definitions.specs.Systems.{Equation}
@@ -14,7 +14,8 @@ use Rattle.system.specs.Walks.{Pairs}
 use Rattle.passes.specs.declared.plan.Change.{Change}
 use Rattle.passes.specs.Planned.{mask, remaining, change_of, equation_by}
 use Rattle.passes.specs.Rewrites.{HeaderThere, changed}
-use Rattle.passes.proofs.Masks.{struck_long, place_within, left_all, left_none, wrote_same}
+use Rattle.passes.proofs.TermBits.{left_last}
+use Rattle.passes.proofs.Masks.{struck_long, place_within, left_none, wrote_same}
 use Rattle.passes.proofs.Equations.{numbered_long, struck_changed, headers_there, equations_there}
 use Rattle.passes.proofs.rewrite.write_system.Goals as goal
 
@@ -139,4 +140,4 @@ returns g c = λ s short o k.
     let whole = equations_there a hs file ts es there (subst (λ (hs : List Header). Every (BodyFits a hs) es) (sym o.headers) k.bodies) o.bodies in
     let l3 = left_next {rest = start} bodies c.write_bodies.new.writer l2 (wrote_same (sym (ap (λ (es : List Equation). flat (map body_bits es)) is)) (c.in_ok-write_bodies.ensures es short whole)) in
     let x = c.write_start in
-    left_all start x.new.writer x.result l3 (x.ensures s o k)
+    left_last start x.new.writer x.result l3 (x.ensures s o k)

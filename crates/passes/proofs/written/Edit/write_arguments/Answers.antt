@@ -1,12 +1,11 @@
-use Rattle.std.proofs.Common.{◌≡◌, ℕ, ◌++◌, true, false, ◌⊎◌, inl, inr, List, map, length, sym, ap, subst, subst₂, ◌∙◌, rules, tests}
-use Rattle.definitions.specs.Systems.{Term as Tree}
+use Rattle.std.proofs.Common.{◌≡◌, ℕ, true, false, ◌⊎◌, inl, inr, List, length, sym, ap, subst, subst₂, ◌∙◌, rules, tests}
 use Rattle.definitions.specs.Written.{term_bits}
-use Rattle.bits.specs.Writes.{Wrote, NoRoom}
-use Rattle.system.specs.Walks.{Pairs}
+use Rattle.bits.specs.Writes.{NoRoom}
 use Rattle.passes.specs.declared.plan.ParameterChange.{ParameterChange}
 use Rattle.passes.specs.Planned.{stays, term_by}
 use Rattle.passes.specs.Rewrites.{TermAt}
-use Rattle.passes.proofs.Masks.{stays_as, wrote_same, writes_same}
+use Rattle.passes.proofs.Numbering.{stays_same}
+use Rattle.passes.proofs.Masks.{wrote_same, writes_same}
 use Rattle.passes.proofs.Along.{Along, piece, piece_yes, piece_no, along_struck, along_first, along_next, along_skip, along_stop, along_end}
 use Rattle.passes.proofs.written.Edit.write_arguments.Goals as goal
 
@@ -31,7 +30,7 @@ loop-argument-preserved-in-Continue-1 g c = λ ts vs n p.
     let d = c.in-Some.ensures.steps in
     let x = c.in-Some.argument.now in
     let ch = c.in-Some.change.now in
-    let yes : stays ch ≡ true = sym (stays_as c.eq.result ch (search (rules, tests))) ∙ c.if-eq.true in
+    let yes : stays ch ≡ true = sym (stays_same c.eq.result ch (search (rules, tests))) ∙ c.if-eq.true in
     along_next R k x ch c.write_term.new.writer d.0 d.1 (c.loop-argument.invariant ts vs n p) (λ t h. wrote_same (sym (piece_yes term_bits f (stays ch) t yes)) (c.in_ok-write_term.ensures t vs h.sort n h.fits h.stands))
 
 pub returns-in_err-write_term : goal.returns-in_err-write_term
@@ -43,7 +42,7 @@ returns-in_err-write_term g c = λ ts vs n p.
     let d = c.in-Some.ensures.steps in
     let x = c.in-Some.argument.now in
     let ch = c.in-Some.change.now in
-    let yes : stays ch ≡ true = sym (stays_as c.eq.result ch (search (rules, tests))) ∙ c.if-eq.true in
+    let yes : stays ch ≡ true = sym (stays_same c.eq.result ch (search (rules, tests))) ∙ c.if-eq.true in
     let r = c.from_residual in
     writes_same c.args.writer.now c.write_term.new.writer r.result (along_struck term_bits f stays c.args.changes.now ts)
     (along_stop R k x ch c.write_term.new.writer r.result r.ensures.0 d.0 d.1 (c.loop-argument.invariant ts vs n p) (λ t h. subst (λ (bs : List ℕ). NoRoom bs c.loop-argument.writer) (sym (piece_yes term_bits f (stays ch) t yes)) (c.in_err-write_term.ensures t vs h.sort n h.fits h.stands)))
@@ -56,7 +55,7 @@ loop-argument-preserved g c = λ ts vs n p.
     let k = λ (c : ParameterChange). piece term_bits f (stays c) in
     let d = c.in-Some.ensures.steps in
     let ch = c.in-Some.change.now in
-    let no : stays ch ≡ false = sym (stays_as c.eq.result ch (search (rules, tests))) ∙ c.if-eq.false in
+    let no : stays ch ≡ false = sym (stays_same c.eq.result ch (search (rules, tests))) ∙ c.if-eq.false in
     along_skip R k c.in-Some.argument.now ch d.0 d.1 (c.loop-argument.invariant ts vs n p) (λ t h. piece_no term_bits f (stays ch) t no)
 
 pub returns : goal.returns

@@ -1,10 +1,10 @@
-use Rattle.std.proofs.Common.{◌≡◌, ℕ, ◌≤◌, ◌<◌, ◌^◌, List, ◌++◌, map, length, Some, None, Option, Fits as Small, w32, sym, ap, ◌∙◌, subst, arith}
+use Rattle.std.proofs.Common.{◌≡◌, ℕ, ◌<◌, ◌^◌, List, ◌++◌, map, length, Option, sym, ap, ◌∙◌, subst, arith}
 use Rattle.std.proofs.lemmas.List.{length-map}
 use Rattle.definitions.specs.Lists.{flat, keep}
 use Rattle.definitions.specs.Alg.{Alg}
 use Rattle.definitions.specs.Bits.{bits}
 use Rattle.definitions.specs.Systems.{Quantified, Clause, Equation}
-use Rattle.definitions.specs.ReadSystem.{Scope, Header, scope, greatest_depth}
+use Rattle.definitions.specs.ReadSystem.{Scope, scope, greatest_depth}
 use Rattle.definitions.specs.Written.{term_bits, clause_bits, body_bits}
 use Rattle.definitions.specs.Fits.{Fits, Every, ClauseFits, header_of}
 use Rattle.bits.specs.Writes.{Wrote, NoRoom}
@@ -21,7 +21,8 @@ use Rattle.passes.specs.declared.plan.Change.{Change}
 use Rattle.passes.specs.declared.plan.Plan.{Plan}
 use Rattle.passes.specs.Planned.{term_by, clause_by, clause_stays, equation_by}
 use Rattle.passes.specs.Rewrites.{ClauseThere, stays_at}
-use Rattle.passes.proofs.Masks.{left_all, left_none, writes_same}
+use Rattle.passes.proofs.TermBits.{left_last}
+use Rattle.passes.proofs.Masks.{left_none, writes_same}
 use Rattle.passes.proofs.Places.{pairs_with, kept_few, kept_alike, clause_alike}
 use Rattle.passes.proofs.written.Edit.write_body.Goals as goal
 
@@ -172,4 +173,4 @@ returns g c = λ e h q short n same headers fit read stays.
     let l2 = left_next {rest = rest} (bits 4 m) c.put.new.self l1 (subst (λ (j : ℕ). Wrote (bits 4 j) c.write_term.new.writer c.put.new.self) count (c.in_ok-put.ensures.writes (omega arith) (omega arith))) in
     let x = c.write_clauses in
     let there_three = subst (λ (xs : List ClauseAt). Pairs R xs e.clauses) (sym c.as_slice-2.ensures) there in
-    writes_same w x.new.writer x.result (sym all) (left_all rest x.new.writer x.result l2 (x.ensures e.clauses vs short n there_three))
+    writes_same w x.new.writer x.result (sym all) (left_last rest x.new.writer x.result l2 (x.ensures e.clauses vs short n there_three))

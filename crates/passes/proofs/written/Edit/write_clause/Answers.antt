@@ -1,4 +1,4 @@
-use Rattle.std.proofs.Common.{◌≡◌, ℕ, ◌-◌, ◌<◌, ◌≤◌, List, ◌++◌, map, length, Some, None, Option, sym, ap, ◌∙◌, subst, arith}
+use Rattle.std.proofs.Common.{◌≡◌, ℕ, ◌-◌, List, ◌++◌, map, length, Option, sym, ap, ◌∙◌, subst, arith}
 use Rattle.std.proofs.lemmas.List.{length-map}
 use Rattle.definitions.specs.Lists.{flat}
 use Rattle.definitions.specs.Bits.{bits}
@@ -15,7 +15,8 @@ use Rattle.system.specs.Whole.{kept_headers}
 use Rattle.system.specs.Walks.{OccurrenceOf, Found, Pairs}
 use Rattle.passes.specs.Planned.{term_by, occurrence_by, clause_by}
 use Rattle.passes.specs.Rewrites.{OccurrenceThere}
-use Rattle.passes.proofs.Masks.{left_all, left_none}
+use Rattle.passes.proofs.TermBits.{left_last}
+use Rattle.passes.proofs.Masks.{left_none}
 use Rattle.passes.proofs.Places.{pairs_with}
 use Rattle.passes.proofs.written.Edit.write_clause.Goals as goal
 
@@ -66,4 +67,4 @@ returns g c = λ k vs q short n s f.
     let here = subst (λ (o : Option (Row OccurrenceAt 8)). Found o (λ xs. Pairs (λ (x : OccurrenceAt) (o : Occurrence). (u : ℕ) × OccurrenceOf a file o u x) (listed xs) os)) c.in_ok-occurrences.ensures.ok_part found in
     let there = pairs_with (λ (x : OccurrenceAt) (o : Occurrence). (u : ℕ) × OccurrenceOf a file o u x) (OccurrenceFits a hs sc) (OccurrenceThere a hs sc file) (λ x o p h. record { end = p.0; found = p.1; fits = h }) (listed c.in_ok-occurrences.occurrences) os here s.fit in
     let x = c.write_occurrences in
-    left_all rest x.new.writer x.result l2 (x.ensures os vs n (subst (λ (xs : List OccurrenceAt). Pairs (OccurrenceThere a hs sc file) xs os) (sym c.as_slice.ensures) there))
+    left_last rest x.new.writer x.result l2 (x.ensures os vs n (subst (λ (xs : List OccurrenceAt). Pairs (OccurrenceThere a hs sc file) xs os) (sym c.as_slice.ensures) there))

@@ -1,4 +1,4 @@
-use Rattle.std.proofs.Common.{◌≡◌, ℕ, ◌+◌, true, false, List, map, drop, length, sym, ap, ◌∙◌, subst, arith, drop_of_length-le}
+use Rattle.std.proofs.Common.{◌≡◌, ℕ, ◌+◌, List, drop, length, sym, ap, ◌∙◌, subst, arith, drop_of_length-le}
 use Rattle.definitions.specs.Systems.{Clause}
 use Rattle.definitions.specs.Written.{clause_bits}
 use Rattle.bits.specs.declared.writer.BitWriter.{BitWriter}

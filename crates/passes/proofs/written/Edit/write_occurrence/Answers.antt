@@ -1,7 +1,6 @@
-use Rattle.std.proofs.Common.{◌≡◌, ℕ, ◌<◌, List, ◌++◌, map, sym, ap, ◌∙◌, subst, arith}
+use Rattle.std.proofs.Common.{◌≡◌, ℕ, List, map, sym, ap, ◌∙◌, subst, arith}
 use Rattle.definitions.specs.Lists.{flat, strike, place}
 use Rattle.definitions.specs.Bits.{bits}
-use Rattle.definitions.specs.Systems.{Term as Tree, Occurrence}
 use Rattle.definitions.specs.Written.{term_bits, occurrence_bits}
 use Rattle.bits.specs.Writes.{Wrote, NoRoom, Writes}
 use Rattle.bits.proofs.Left.{left_first, left_next}
@@ -9,7 +8,8 @@ use Rattle.rows.specs.Listed.{listed}
 use Rattle.system.specs.Walks.{Pairs}
 use Rattle.passes.specs.Planned.{mask, remaining, change_of, term_by, occurrence_by}
 use Rattle.passes.specs.Rewrites.{TermAt}
-use Rattle.passes.proofs.Masks.{place_within, left_all, left_none}
+use Rattle.passes.proofs.TermBits.{left_last}
+use Rattle.passes.proofs.Masks.{place_within, left_none}
 use Rattle.passes.proofs.Places.{terms_there}
 use Rattle.passes.proofs.written.Edit.write_occurrence.Goals as goal
 
@@ -44,4 +44,4 @@ returns g c = λ o vs q n s f.
     (subst (λ (k : ℕ). Wrote (bits 5 k) w c.put.new.self) same (c.in_ok-put.ensures.writes (omega arith) (omega arith))) in
     let there = subst (λ (ps : List ℕ). Pairs R ps o.arguments) (sym c.as_slice.ensures) (terms_there a (record { parameters = c.args.self.now.sorts.now; variables = vs }) c.args.self.now.accepted.now.file.now s.header.sorts (listed c.args.occurrence.now.arguments) o.arguments s.fit f.count f.arguments) in
     let x = c.write_arguments in
-    left_all (rest o.target) x.new.writer x.result l (subst (λ (k : ℕ). Writes (rest k) c.put.new.self x.new.writer x.result) f.target (x.ensures o.arguments vs n there))
+    left_last (rest o.target) x.new.writer x.result l (subst (λ (k : ℕ). Writes (rest k) c.put.new.self x.new.writer x.result) f.target (x.ensures o.arguments vs n there))

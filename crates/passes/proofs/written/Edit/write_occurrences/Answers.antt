@@ -1,7 +1,6 @@
-use Rattle.std.proofs.Common.{◌≡◌, ℕ, List, map, drop, length, sym, ap, ◌∙◌, subst, arith, drop_of_length-le}
+use Rattle.std.proofs.Common.{◌≡◌, drop, length, ap, arith, drop_of_length-le}
 use Rattle.definitions.specs.Systems.{Occurrence}
 use Rattle.definitions.specs.Written.{occurrence_bits}
-use Rattle.bits.specs.declared.writer.BitWriter.{BitWriter}
 use Rattle.system.specs.Whole.{kept_headers}
 use Rattle.passes.specs.Planned.{term_by, occurrence_by}
 use Rattle.passes.specs.Rewrites.{OccurrenceThere}

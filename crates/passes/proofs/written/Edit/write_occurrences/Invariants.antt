@@ -1,7 +1,6 @@
 use Rattle.std.proofs.Common.{ℕ, List, drop}
 use Rattle.definitions.specs.Systems.{Occurrence}
 use Rattle.definitions.specs.Written.{occurrence_bits}
-use Rattle.bits.specs.declared.writer.BitWriter.{BitWriter}
 use Rattle.system.specs.Whole.{kept_headers}
 use Rattle.system.specs.Walks.{Pairs}
 use Rattle.passes.specs.Planned.{term_by, occurrence_by, Narrow}
