@@ -6,7 +6,7 @@ use Rattle.definitions.specs.Alg.{Alg}
 use Rattle.definitions.specs.Systems.{Kind, parameter, variable, value, operation, not, and, or, equal, Term, Terms, node, none, more, term, folds, Occurrence, Clause, Equation, System}
 use Rattle.definitions.specs.ReadSystem.{Scope, Header, scope}
 use Rattle.definitions.specs.Values.{known, is_false}
-use Rattle.definitions.specs.Terms.{on_parameter, replaced, truth_term, on_occurrence, on_clause}
+use Rattle.definitions.specs.Terms.{on_parameter, replaced, truth_term, on_clause}
 use Rattle.definitions.specs.Passes.{folded_as, folded, foldeds}
 use Rattle.definitions.specs.Fits.{Every, Fits, header_of, OccurrenceFits, ClauseFits, BodyFits, SystemFits}
 use Rattle.theorems.proofs.Listing.{get_or_some, at_mapped, at_map_some, at_lt, at_some, every_at, every_map, every_keep, map_from_long}
@@ -163,14 +163,14 @@ whole_by a P c e =
       clauses = map (clause_by P (term_by a P e.sorts c)) (keep (clause_stays a P) e.clauses);
     }
 
-abbrev pub bare_by : Change → Equation → Equation
-bare_by c e = record { sign = e.sign; sorts = strike (mask c) e.sorts; quantified = []; h = truth_term 0; clauses = [] }
+abbrev pub bare_of : Equation → List ℕ → Equation
+bare_of e ss = record { sign = e.sign; sorts = ss; quantified = []; h = truth_term 0; clauses = [] }
 
 module _ (a : Alg) (P : Plan) (c : Change) (e : Equation) where
   abbrev by_change : EquationChange → Equation
-  by_change q = elim q as (λ _. Equation) [ equation.Bare ↦ bare_by c e | equation.Stays ↦ whole_by a P c e | equation.Goes ↦ whole_by a P c e ]
+  by_change q = elim q as (λ _. Equation) [ equation.Bare ↦ bare_of e (strike (mask c) e.sorts) | equation.Stays ↦ whole_by a P c e | equation.Goes ↦ whole_by a P c e ]
 
-  pub made_bare : c.equation ≡ equation.Bare → equation_by a P c e ≡ bare_by c e
+  pub made_bare : c.equation ≡ equation.Bare → equation_by a P c e ≡ bare_of e (strike (mask c) e.sorts)
   made_bare q = ap by_change q
 
   pub left_whole : c.equation ≡ equation.Stays → equation_by a P c e ≡ whole_by a P c e
@@ -193,12 +193,33 @@ abbrev pub occurrence_of : ℕ → List Term → Occurrence
 occurrence_of j ts = record { target = j; arguments = ts }
 
 -- a clause with its targets, its guard and its lists of arguments changed
-module _ (to : ℕ → ℕ) (f : Term → Term) (fs : List Term → List Term) where
+module _ (to : ℕ → ℕ) (f : Term → Term) (fs : ℕ → List Term → List Term) where
   abbrev pub occurrence_to : Occurrence → Occurrence
-  occurrence_to o = occurrence_of (to o.target) (fs o.arguments)
+  occurrence_to o = occurrence_of (to o.target) (fs o.target o.arguments)
 
   abbrev pub clause_to : Clause → Clause
   clause_to k = clause_of (f k.guard) (map occurrence_to k.occurrences)
+
+-- what a plan makes of clauses that fit, by what it makes of terms, targets and lists of arguments
+module _ (a : Alg) (s : System) (P : Plan) (c : Scope) (f g : Term → Term) (to : ℕ → ℕ) (fs : ℕ → List Term → List Term)
+    (same : (r : ℕ) (t : Term) → Fits a c 32 r t → f t ≡ g t)
+    (targets : (j : ℕ) → j < length s.equations → place (remaining P) j ≡ to j)
+    (arguments : (j : ℕ) (e : Equation) → at s.equations j ≡ Some e → (ts : List Term) → length e.sorts ≡ length ts → Every (λ t. f t ≡ g t) ts → map f (strike (mask (change_of P j)) ts) ≡ fs j ts) where
+  occurrence_told : (o : Occurrence) → OccurrenceFits a (map header_of s.equations) c o → occurrence_by P f o ≡ occurrence_to to g fs o
+  occurrence_told o h =
+      let (q, eq, eh) = at_map_some header_of s.equations o.target h.header h.there in
+      ap₂ occurrence_of (targets o.target (at_lt s.equations o.target q eq))
+      (arguments o.target q eq o.arguments (ap (λ (z : Header). length z.sorts) eh ∙ terms_long a c h.header.sorts o.arguments h.fit)
+      (every_map o.arguments (λ t (p : (r : ℕ) × Fits a c 32 r t). same p.0 t p.1) (terms_fit a c h.header.sorts o.arguments h.fit)))
+
+  clause_told : (k : Clause) → ClauseFits a (map header_of s.equations) c k → clause_by P f k ≡ clause_to to g fs k
+  clause_told k h = ap₂ clause_of (same 0 k.guard h.guard) (map_alike (occurrence_by P f) (occurrence_to to g fs) k.occurrences (every_map k.occurrences occurrence_told h.fit))
+
+-- the equation a system starts at
+start_there : (a : Alg) (s : System) → SystemFits a s → (e : Equation) × (at s.equations s.start ≡ Some e) × (length e.sorts ≡ length s.values)
+start_there a s fit =
+    let (q, eq, eh) = at_map_some header_of s.equations s.start fit.header fit.there in
+    (q, eq, ap (λ (z : Header). length z.sorts) eh ∙ values_long a fit.header.sorts s.values fit.values)
 
 -- plans under which every parameter of the system stays
 module _ (a : Alg) (s : System) (fit : SystemFits a s) (folds : Bool) (what : ℕ → Equation → EquationChange) (P : Plan) (plan : Plans s folds what (λ i e n. Stays) P) where
@@ -207,15 +228,11 @@ module _ (a : Alg) (s : System) (fit : SystemFits a s) (folds : Bool) (what : �
       full_by (mask (change_of P i)) (length e.sorts)
       (λ j l. get_or_some false (mask (change_of P i)) j true (at_mapped stays (change_of P i).parameters j Stays (parameter_told plan i e p j l)))
 
-  pub sorts_steady : (i : ℕ) (e : Equation) → at s.equations i ≡ Some e → strike (mask (change_of P i)) e.sorts ≡ e.sorts
-  sorts_steady i e p = full_strike (mask (change_of P i)) e.sorts (mask_full i e p)
+  cut_steady : {A : Type 0} (i : ℕ) (e : Equation) → at s.equations i ≡ Some e → (xs : List A) → length e.sorts ≡ length xs → strike (mask (change_of P i)) xs ≡ xs
+  cut_steady i e p xs l = full_strike (mask (change_of P i)) xs (subst (Full (mask (change_of P i))) l (mask_full i e p))
 
-  -- a list as long as the parameters of the equation with this header
-  long_steady : {A : Type 0} (j : ℕ) (h : Header) (xs : List A) → at (map header_of s.equations) j ≡ Some h → length h.sorts ≡ length xs →
-      strike (mask (change_of P j)) xs ≡ xs
-  long_steady j h xs p l =
-      let (q, eq, eh) = at_map_some header_of s.equations j h p in
-      full_strike (mask (change_of P j)) xs (subst (Full (mask (change_of P j))) (ap (λ (z : Header). length z.sorts) eh ∙ l) (mask_full j q eq))
+  pub sorts_steady : (i : ℕ) (e : Equation) → at s.equations i ≡ Some e → strike (mask (change_of P i)) e.sorts ≡ e.sorts
+  sorts_steady i e p = cut_steady i e p e.sorts refl
 
   module _ (i : ℕ) (e : Equation) (p : at s.equations i ≡ Some e) where
     kind_steady : (n : ℕ) → (q : ℕ) × (at e.sorts n ≡ Some q) → kind_by e.sorts (change_of P i) n ≡ parameter n
@@ -233,32 +250,20 @@ module _ (a : Alg) (s : System) (fit : SystemFits a s) (folds : Bool) (what : �
 
   -- where targets become what is told, and folding makes of lists of terms what is told
   module _ (to : ℕ → ℕ) (targets : (j : ℕ) → j < length s.equations → place (remaining P) j ≡ to j) where
-    target_steady : (j : ℕ) (h : Header) → at (map header_of s.equations) j ≡ Some h → place (remaining P) j ≡ to j
-    target_steady j h p = let (q, eq, eh) = at_map_some header_of s.equations j h p in targets j (at_lt s.equations j q eq)
-
     pub system_steady : (es : List Equation) → strike (remaining P) (map_from 0 (λ i e. equation_by a P (change_of P i) e) s.equations) ≡ es →
         system_by a P s ≡ system_of es (to s.start) s.values
     system_steady es h =
         ap (λ es. system_of es (place (remaining P) s.start) (strike (mask (change_of P s.start)) s.values)) h ∙
-        ap₂ (system_of es) (target_steady s.start fit.header fit.there)
-        (long_steady s.start fit.header s.values fit.there (values_long a fit.header.sorts s.values fit.values))
+        (let (q, eq, l) = start_there a s fit in ap₂ (system_of es) (targets s.start (at_lt s.equations s.start q eq)) (cut_steady s.start q eq s.values l))
 
-    module _ (fs : List Term → List Term) (all : (ts : List Term) → map (folded_if folds a) ts ≡ fs ts) (i : ℕ) (e : Equation) (p : at s.equations i ≡ Some e) where
+    module _ (fs : ℕ → List Term → List Term) (all : (j : ℕ) (ts : List Term) → map (folded_if folds a) ts ≡ fs j ts) (i : ℕ) (e : Equation) (p : at s.equations i ≡ Some e) where
       abbrev r : Term → Term
       r = term_by a P e.sorts (change_of P i)
 
-      occurrence_steady : (o : Occurrence) → OccurrenceFits a (map header_of s.equations) (scope (header_of e)) o → occurrence_by P r o ≡ occurrence_to to (folded_if folds a) fs o
-      occurrence_steady o g =
-          ap₂ occurrence_of (target_steady o.target g.header g.there)
-          (ap (map r) (long_steady o.target g.header o.arguments g.there (terms_long a (scope (header_of e)) g.header.sorts o.arguments g.fit)) ∙
-          map_alike r (folded_if folds a) o.arguments
-          (every_map o.arguments (λ t z. term_steady i e p t z.1) (terms_fit a (scope (header_of e)) g.header.sorts o.arguments g.fit)) ∙
-          all o.arguments)
-
       clause_steady : (k : Clause) → ClauseFits a (map header_of s.equations) (scope (header_of e)) k → clause_by P r k ≡ clause_to to (folded_if folds a) fs k
-      clause_steady k g =
-          ap₂ clause_of (term_steady i e p k.guard g.guard)
-          (map_alike (occurrence_by P r) (occurrence_to to (folded_if folds a) fs) k.occurrences (every_map k.occurrences occurrence_steady g.fit))
+      clause_steady =
+          clause_told a s P (scope (header_of e)) r (folded_if folds a) to fs (λ q t. term_steady i e p t) targets
+          (λ j q eq ts l h. ap (map r) (cut_steady j q eq ts l) ∙ map_alike r (folded_if folds a) ts h ∙ all j ts)
 
       abbrev clauses_left : Bool → List Clause
       clauses_left b = keep (λ (k : Clause). flip b || flip (is_false (known a [] k.guard))) e.clauses
@@ -274,20 +279,10 @@ module _ (a : Alg) (s : System) (fit : SystemFits a s) (folds : Bool) (what : �
 
 -- an equation with its terms changed and its occurrences' arguments struck
 abbrev pub made : List (List Bool) → ℕ → (Term → Term) → Equation → Equation
-made masks i f e =
-    record {
-      sign = e.sign;
-      sorts = strike (get_or masks i []) e.sorts;
-      quantified = e.quantified;
-      h = f e.h;
-      clauses = map (on_clause (λ j ts. strike (get_or masks j []) ts) f) e.clauses;
-    }
-
-abbrev pub bared : List (List Bool) → ℕ → Equation → Equation
-bared masks i e = record { sign = e.sign; sorts = strike (get_or masks i []) e.sorts; quantified = []; h = truth_term 0; clauses = [] }
+made masks i f e = made_of e (strike (get_or masks i []) e.sorts) (f e.h) (map (on_clause (λ j ts. strike (get_or masks j []) ts) f) e.clauses)
 
 abbrev pub given : List (List Bool) → (ℕ → Equation → Equation) → System → System
-given masks F s = record { equations = map_from 0 F s.equations; start = s.start; values = strike (get_or masks s.start []) s.values }
+given masks F s = system_of (map_from 0 F s.equations) s.start (strike (get_or masks s.start []) s.values)
 
 -- a plan under which no equation goes and nothing folds, and masks that say which parameters stay
 pub record Steady (a : Alg) (s : System) (P : Plan) : Type 0 where
@@ -319,21 +314,10 @@ module _ (a : Alg) (s : System) (P : Plan) (y : Steady a s P) where
   placed i e p n l = place_same (mask (change_of P i)) (get_or y.masks i []) n (λ k m. mask_agrees i e p k (omega arith))
 
   module _ (c : Scope) (f g : Term → Term) (same : (r : ℕ) (t : Term) → Fits a c 32 r t → f t ≡ g t) where
-    occurrence_made : (o : Occurrence) → OccurrenceFits a (map header_of s.equations) c o → occurrence_by P f o ≡ on_occurrence (λ j ts. strike (get_or y.masks j []) ts) g o
-    occurrence_made o h =
-        let (q, eq, eh) = at_map_some header_of s.equations o.target h.header h.there in
-        let m = get_or y.masks o.target [] in
-        let long : length q.sorts ≡ length o.arguments = ap (λ (z : Header). length z.sorts) eh ∙ terms_long a c h.header.sorts o.arguments h.fit in
-        ap₂ (λ (j : ℕ) (ts : List Term). record { target = j; arguments = ts })
-        (full_place (remaining P) (length s.equations) remaining_full o.target (at_lt s.equations o.target q eq))
-        (ap (map f) (struck o.target q eq o.arguments long) ∙
-        map_alike f g (strike m o.arguments)
-        (strike_every (λ t. f t ≡ g t) m o.arguments (every_map o.arguments (λ t (p : (r : ℕ) × Fits a c 32 r t). same p.0 t p.1) (terms_fit a c h.header.sorts o.arguments h.fit))))
-
     clause_made : (k : Clause) → ClauseFits a (map header_of s.equations) c k → clause_by P f k ≡ on_clause (λ j ts. strike (get_or y.masks j []) ts) g k
-    clause_made k h =
-        ap₂ (λ (t : Term) (os : List Occurrence). record { guard = t; occurrences = os }) (same 0 k.guard h.guard)
-        (map_alike (occurrence_by P f) (on_occurrence (λ j ts. strike (get_or y.masks j []) ts) g) k.occurrences (every_map k.occurrences occurrence_made h.fit))
+    clause_made =
+        clause_told a s P c f g (λ j. j) (λ j ts. map g (strike (get_or y.masks j []) ts)) same (full_place (remaining P) (length s.equations) remaining_full)
+        (λ j q eq ts l h. ap (map f) (struck j q eq ts l) ∙ map_alike f g (strike (get_or y.masks j []) ts) (strike_every (λ t. f t ≡ g t) (get_or y.masks j []) ts h))
 
   unfolded : (t : Term) → folded_if P.fold a t ≡ t
   unfolded t = ap (λ b. folded_if b a t) y.plans.fold
@@ -352,28 +336,24 @@ module _ (a : Alg) (s : System) (P : Plan) (y : Steady a s P) where
         let is : (r : ℕ) (t : Term) → Fits a (scope (header_of e)) 32 r t → term_by a P e.sorts (change_of P i) t ≡ f t =
         λ r t h. ap (replaced (kind_by e.sorts (change_of P i))) (unfolded t) ∙ same r t h in
         left_whole a P (change_of P i) e (equation_told y.plans i e p ∙ w) ∙
-        ap₂ (λ (ss : List ℕ) (z : Term × List Clause). made_of e ss z.0 z.1)
-        (struck i e p e.sorts refl)
-        (ap₂ (λ (t : Term) (ks : List Clause). (t, ks)) (is 0 e.h b.h)
+        ap (λ ss. made_of e ss (g e.h) (map (clause_by P g) (keep (clause_stays a P) e.clauses))) (struck i e p e.sorts refl) ∙
+        ap₂ (made_of e (strike (get_or y.masks i []) e.sorts)) (is 0 e.h b.h)
         (ap (map (clause_by P g)) (keep_every (clause_stays a P) e.clauses clause_left) ∙
         map_alike (clause_by P g) (on_clause (λ j ts. strike (get_or y.masks j []) ts) f) e.clauses
-        (every_map e.clauses (clause_made (scope (header_of e)) g f is) b.fit)))
+        (every_map e.clauses (clause_made (scope (header_of e)) g f is) b.fit))
 
     -- one that becomes bare
-    pub bare_made : y.what i e ≡ equation.Bare → equation_by a P (change_of P i) e ≡ bared y.masks i e
+    pub bare_made : y.what i e ≡ equation.Bare → equation_by a P (change_of P i) e ≡ bare_of e (strike (get_or y.masks i []) e.sorts)
     bare_made w =
         made_bare a P (change_of P i) e (equation_told y.plans i e p ∙ w) ∙
-        ap (λ (ss : List ℕ). record { sign = e.sign; sorts = ss; quantified = []; h = truth_term 0; clauses = [] }) (struck i e p e.sorts refl)
+        ap (bare_of e) (struck i e p e.sorts refl)
 
   pub system_made : (F : ℕ → Equation → Equation) → ((i : ℕ) (e : Equation) → at s.equations i ≡ Some e → equation_by a P (change_of P i) e ≡ F i e) → system_by a P s ≡ given y.masks F s
   system_made F h =
       let G : ℕ → Equation → Equation = λ i e. equation_by a P (change_of P i) e in
-      let (q, eq, eh) = at_map_some header_of s.equations s.start y.fit.header y.fit.there in
-      let long : length q.sorts ≡ length s.values = ap (λ (z : Header). length z.sorts) eh ∙ values_long a y.fit.header.sorts s.values y.fit.values in
+      let (q, eq, l) = start_there a s y.fit in
       let es : strike (remaining P) (map_from 0 G s.equations) ≡ map_from 0 F s.equations =
       full_strike (remaining P) (map_from 0 G s.equations) (subst (Full (remaining P)) (sym (map_from_long 0 G s.equations)) remaining_full) ∙
       map_from_numbered G F s.equations h in
-      ap₂ (λ (es : List Equation) (z : ℕ × List ℕ). record { equations = es; start = z.0; values = z.1 }) es
-      (ap₂ (λ (j : ℕ) (vs : List ℕ). (j, vs))
-      (full_place (remaining P) (length s.equations) remaining_full s.start (at_lt s.equations s.start q eq))
-      (struck s.start q eq s.values long))
+      ap (λ es. system_of es (place (remaining P) s.start) (strike (mask (change_of P s.start)) s.values)) es ∙
+      ap₂ (system_of (map_from 0 F s.equations)) (full_place (remaining P) (length s.equations) remaining_full s.start (at_lt s.equations s.start q eq)) (struck s.start q eq s.values l)
