@@ -1,5 +1,5 @@
 -- The equations of an outline beside those of its system, and with their changes.
-use Rattle.std.proofs.Common.{◌≡◌, ℕ, zero, suc, ◌+◌, Bool, true, false, List, [], ◌∷◌, map, length, Some, get_or, sym, refl, ap, ap₂, ◌∙◌, add-zero, arith}
+use Rattle.std.proofs.Common.{◌≡◌, ℕ, zero, suc, ◌+◌, Bool, true, false, List, [], ◌∷◌, map, Some, get_or, sym, refl, ap, ap₂, ◌∙◌, add-zero, arith}
 use Rattle.definitions.specs.Lists.{at, map_from, strike}
 use Rattle.definitions.specs.Alg.{Alg}
 use Rattle.definitions.specs.Systems.{Equation}
@@ -13,10 +13,6 @@ use Rattle.passes.specs.declared.plan.Change.{Change}
 use Rattle.passes.specs.declared.plan.Plan.{Plan}
 use Rattle.passes.specs.Planned.{remains, remaining, unchanged, change_of}
 use Rattle.passes.specs.Rewrites.{HeaderThere, EquationThere, changed}
-
-pub numbered_long : {A B : Type 0} (k : ℕ) (f : ℕ → A → B) (xs : List A) → length (map_from k f xs) ≡ length xs
-numbered_long k f [] = refl
-numbered_long k f (x ∷ xs) = ap suc (numbered_long (suc k) f xs)
 
 picked : {X : Type 0} (m : Bool) (ms : List Bool) (x y : X) (xs ys : List X) → x ≡ y → strike ms xs ≡ ys → strike (m ∷ ms) (x ∷ xs) ≡ elim m [ true ↦ y ∷ ys | false ↦ ys ]
 picked true ms x y xs ys e h = ap₂ (λ z zs. z ∷ zs) e h

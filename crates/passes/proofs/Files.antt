@@ -1,10 +1,11 @@
 -- The file of a system: its content is made of bits, and closed it is packed.
-use Rattle.std.proofs.Common.{◌≡◌, ℕ, zero, suc, ◌+◌, ◌-◌, ◌*◌, ◌/◌, ◌<◌, ◌≤◌, Bool, true, false, ltb, List, [], ◌∷◌, ◌++◌, map, length, drop, sym, refl, ap, ◌∙◌, arith}
+use Rattle.std.proofs.Common.{◌≡◌, ℕ, ◌+◌, ◌-◌, ◌*◌, ◌/◌, ◌<◌, ◌≤◌, Bool, true, false, ltb, List, [], ◌∷◌, ◌++◌, map, length, drop, sym, refl, ap, ◌∙◌, arith}
 use Rattle.definitions.specs.Lists.{flat}
-use Rattle.definitions.specs.Bits.{bits, bytes_of, packed}
+use Rattle.definitions.specs.Bits.{bits, packed}
 use Rattle.definitions.specs.Solution.{Sign, least, greatest}
 use Rattle.definitions.specs.Systems.{Kind, parameter, variable, value, operation, not, and, or, equal, Term, Terms, node, none, more, folds, Quantifier, exists, forall, Quantified, Occurrence, Clause, Equation, System}
 use Rattle.definitions.specs.Written.{kind_bits, term_bits, sign_bits, quantifier_bits, header_bits, occurrence_bits, clause_bits, body_bits, system_bits}
+use Rattle.theorems.proofs.Packs.{bytes_long}
 use Rattle.bits.specs.declared.writer.BitWriter.{BitWriter}
 use Rattle.bits.specs.Back.{Bytes, are_bits}
 use Rattle.bits.specs.Put.{overwritten, closed}
@@ -88,10 +89,6 @@ system_are s =
     both_are (bits 5 n) (heads ++ (bodies ++ (bits 5 s.start ++ values))) (bits_are 5 n)
     (both_are heads (bodies ++ (bits 5 s.start ++ values)) (flat_are header_bits header_are s.equations)
     (both_are bodies (bits 5 s.start ++ values) (flat_are body_bits body_are s.equations) (both_are (bits 5 s.start) values (bits_are 5 s.start) (flat_are (bits 8) (bits_are 8) s.values))))
-
-bytes_long : (n : ℕ) (bs : List ℕ) → length (bytes_of n bs) ≡ n
-bytes_long zero bs = refl
-bytes_long (suc n) bs = ap suc (bytes_long n (drop 8 bs))
 
 pub packed_long : (bs : List ℕ) → length (packed bs) ≡ (length bs + 7) / 8
 packed_long bs = bytes_long ((length bs + 7) / 8) bs

@@ -6,7 +6,6 @@ pub mod Heads
 pub mod Places
 pub mod Equations
 pub mod Files
-pub mod PlanMasks
 pub mod PlanR
 pub mod PlanC
 pub mod PlanBasics

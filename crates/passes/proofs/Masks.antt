@@ -1,31 +1,14 @@
--- What a mask keeps, and writing it piece by piece.
-use Rattle.std.proofs.Common.{◌≡◌, ℕ, zero, suc, ◌≤◌, ◌⊎◌, inl, inr, Bool, true, false, List, [], ◌∷◌, ◌++◌, map, length, Ok, Err, Result, IsErr, refl, ap, subst, arith}
-use Rattle.definitions.specs.Lists.{flat, strike, place}
+-- Writing piece by piece what a mask keeps.
+use Rattle.std.proofs.Common.{◌≡◌, ℕ, ◌⊎◌, inl, inr, Bool, true, false, List, [], ◌∷◌, ◌++◌, map, length, Ok, Err, Result, IsErr, refl, ap, subst, arith}
+use Rattle.definitions.specs.Lists.{flat, strike}
 use Rattle.definitions.specs.Fits.{Every}
 use Rattle.bits.specs.declared.writer.BitWriter.{BitWriter}
 use Rattle.bits.specs.declared.writer.Full.{Full}
 use Rattle.bits.specs.Writes.{Wrote, NoRoom, Writes, Left}
 use Rattle.bits.proofs.Left.{left_stop}
 
--- as many are kept as are counted
-pub struck_long : {A : Type 0} (ms : List Bool) (xs : List A) → length (strike ms xs) ≡ place ms (length xs)
-struck_long [] xs = refl
-struck_long (m ∷ ms) [] = refl
-struck_long (true ∷ ms) (x ∷ xs) = ap suc (struck_long ms xs)
-struck_long (false ∷ ms) (x ∷ xs) = struck_long ms xs
-
-pub place_within : (ms : List Bool) (n : ℕ) → place ms n ≤ n
-place_within [] n = omega arith
-place_within (m ∷ ms) zero = omega arith
-place_within (true ∷ ms) (suc n) = let h = place_within ms n in omega arith
-place_within (false ∷ ms) (suc n) = let h = place_within ms n in omega arith
-
 pub every_next : {A : Type 0} (P : A → Type 0) {xs ys : List A} (x : A) → xs ≡ x ∷ ys → Every P xs → P x × Every P ys
 every_next P x e h = subst (λ xs. Every P xs) e h
-
-pub every_more : {A : Type 0} (P Q : A → Type 0) → ((x : A) → P x → Q x) → (xs : List A) → Every P xs → Every Q xs
-every_more P Q g [] h = tt
-every_more P Q g (x ∷ xs) h = (g x h.0, every_more P Q g xs h.1)
 
 -- where a piece has no room, nothing is written
 pub left_none : {T : Type 0} {bs : List ℕ} {old now : BitWriter} (cs rest : List ℕ) (new : BitWriter) (r : Result T Full) → IsErr r → Left bs (cs ++ rest) old now → NoRoom cs now → Writes bs old new r

@@ -1,7 +1,7 @@
--- The new number of what stays.
+-- How many a mask keeps, and the new number of what stays.
 use Rattle.std.proofs.Common.{◌≡◌, ◌≢◌, ℕ, zero, suc, ◌≤◌, Bool, true, false, cond, List, [], ◌∷◌, map, length, take, slice_index, slice_index_or, MatchBool, refl, ap, ◌∙◌, arith}
 use Rattle.std.specs.List.{filter}
-use Rattle.definitions.specs.Lists.{place}
+use Rattle.definitions.specs.Lists.{strike, place}
 use Rattle.passes.specs.declared.plan.ParameterChange.{ParameterChange}
 use Rattle.passes.specs.declared.plan.ParameterChange.TheVariants.{Stays, Goes, Becomes}
 use Rattle.passes.specs.declared.plan.EquationChange.{EquationChange}
@@ -20,6 +20,13 @@ kept_of_first {A} f (x ∷ xs) (suc n) = go (f x) (kept_of_first f xs n)
     go : (b : Bool) → length (filter f (take n xs)) ≡ place (map f xs) n → length (cond b (x ∷ filter f (take n xs)) (filter f (take n xs))) ≡ place (b ∷ map f xs) (suc n)
     go true h = ap suc h
     go false h = h
+
+-- as many are kept as are counted
+pub struck_long : {A : Type 0} (ms : List Bool) (xs : List A) → length (strike ms xs) ≡ place ms (length xs)
+struck_long [] xs = refl
+struck_long (m ∷ ms) [] = refl
+struck_long (true ∷ ms) (x ∷ xs) = ap suc (struck_long ms xs)
+struck_long (false ∷ ms) (x ∷ xs) = struck_long ms xs
 
 pub place_few : (ms : List Bool) (n : ℕ) → place ms n ≤ length ms
 place_few [] n = omega arith

@@ -21,7 +21,7 @@ use Rattle.passes.specs.declared.plan.Plan.{Plan}
 use Rattle.passes.specs.Planned.{stays, remains, change_of, kind_by, equation_by, system_by}
 use Rattle.passes.specs.Plans.{becomes, knowing}
 use Rattle.passes.proofs.Numbering.{kind_becomes, kind_numbered}
-use Rattle.passes.proofs.PlanMasks.{Steady, changed, placed, stays_made, bare_made, system_made, fits_same, maps_same, made}
+use Rattle.passes.proofs.PlanBasics.{map_alike, parameter_told, fits_same, Steady, placed, stays_made, bare_made, system_made, made}
 
 -- the least knowledge has one entry for each parameter of a reached equation
 module _ (a : Alg) (s : System) (h : Shaped s) where
@@ -79,18 +79,18 @@ module _ (g : ℕ → List Term → List Term) (natural : (j : ℕ) (p : Term �
   occurrence_twice : (o : Occurrence) → on_occurrence g q o ≡ on_occurrence g f (on_occurrence (λ j ts. ts) p o)
   occurrence_twice o =
       ap (λ (ts : List Term). record { target = o.target; arguments = ts })
-      (maps_same q (λ t. f (p t)) (g o.target o.arguments) (every_of (g o.target o.arguments) twice) ∙
+      (map_alike q (λ t. f (p t)) (g o.target o.arguments) (every_of (g o.target o.arguments) twice) ∙
       sym (map_twice f p (g o.target o.arguments)) ∙ ap (map f) (natural o.target p o.arguments))
 
   clause_twice : (k : Clause) → on_clause g q k ≡ on_clause g f (on_clause (λ j ts. ts) p k)
   clause_twice k =
       ap₂ (λ (t : Term) (os : List Occurrence). record { guard = t; occurrences = os }) (twice k.guard)
-      (maps_same (on_occurrence g q) (λ o. on_occurrence g f (on_occurrence (λ j ts. ts) p o)) k.occurrences (every_of k.occurrences occurrence_twice) ∙
+      (map_alike (on_occurrence g q) (λ o. on_occurrence g f (on_occurrence (λ j ts. ts) p o)) k.occurrences (every_of k.occurrences occurrence_twice) ∙
       sym (map_twice (on_occurrence g f) (on_occurrence (λ j ts. ts) p) k.occurrences))
 
   clauses_twice : (ks : List Clause) → map (on_clause g q) ks ≡ map (on_clause g f) (map (on_clause (λ j ts. ts) p) ks)
   clauses_twice ks =
-      maps_same (on_clause g q) (λ k. on_clause g f (on_clause (λ j ts. ts) p k)) ks (every_of ks clause_twice) ∙
+      map_alike (on_clause g q) (λ k. on_clause g f (on_clause (λ j ts. ts) p k)) ks (every_of ks clause_twice) ∙
       sym (map_twice (on_clause g f) (on_clause (λ j ts. ts) p) ks)
 
 -- cutting after putting in makes each term once
@@ -138,7 +138,7 @@ module _ (a : Alg) (s : System) (P : Plan) (fit : SystemFits a s) (plans : knowi
 
     change_at : (n : ℕ) → n < length e.sorts → get_or (change_of P i).parameters n Goes ≡ put (get_or ks n None)
     change_at n l =
-        get_or_some Goes (change_of P i).parameters n (becomes (get_or K i None) n) ((changed a s P steady i e p).parameters n l) ∙
+        get_or_some Goes (change_of P i).parameters n (becomes (get_or K i None) n) (parameter_told plans i e p n l) ∙
         ap (λ o. becomes o n) q
 
     kind_is : (n : ℕ) → n < length e.sorts → kind_by e.sorts (change_of P i) n ≡ on_parameter renumbered (kind_for e.sorts ks n)

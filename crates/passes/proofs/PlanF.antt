@@ -15,7 +15,7 @@ use Rattle.passes.specs.declared.plan.EquationChange.TheVariants as equation
 use Rattle.passes.specs.declared.plan.Plan.{Plan}
 use Rattle.passes.specs.Planned.{remains, remaining, change_of, equation_by, system_by}
 use Rattle.passes.specs.Plans.{folding}
-use Rattle.passes.proofs.PlanBasics.{map_from_is_map, full_by, equation_told, remaining_told, made_bare, left_whole, sorts_steady, system_steady, whole_steady}
+use Rattle.passes.proofs.PlanBasics.{map_from_is_map, full_by, equation_told, remaining_told, bare_of, made_bare, left_whole, sorts_steady, system_steady, whole_steady}
 
 -- an equation whose h is known false becomes bare, and no equation goes
 abbrev change_for : Bool → EquationChange
@@ -43,8 +43,8 @@ module _ (a : Alg) (s : System) (P : Plan) (fit : SystemFits a s) (plan : foldin
       go : (b : Bool) → (change_of P i).equation ≡ change_for b → equation_by a P (change_of P i) e ≡ elim b as (λ _. Equation) [ true ↦ shut e | false ↦ opened a e ]
       go true k =
           made_bare a P (change_of P i) e k ∙
-          ap (λ ss. record { sign = e.sign; sorts = ss; quantified = []; h = (shut e).h; clauses = [] }) (sorts_steady a s fit true what P plan i e p)
-      go false k = left_whole a P (change_of P i) e k ∙ whole_steady a s fit true what P plan (λ j. j) target_same (map (λ t. folded t a)) (λ ts. refl) i e p
+          ap (bare_of e) (sorts_steady a s fit true what P plan i e p)
+      go false k = left_whole a P (change_of P i) e k ∙ whole_steady a s fit true what P plan (λ j. j) target_same (λ j. map (λ t. folded t a)) (λ j ts. refl) i e p
 
   equations_same : strike (remaining P) (map_from 0 (λ i e. equation_by a P (change_of P i) e) s.equations) ≡ map (folded_equation a) s.equations
   equations_same =

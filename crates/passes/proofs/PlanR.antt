@@ -15,7 +15,7 @@ use Rattle.passes.specs.declared.plan.Plan.{Plan}
 use Rattle.passes.specs.Planned.{stays, change_of, kind_by, system_by}
 use Rattle.passes.specs.Plans.{needing}
 use Rattle.passes.proofs.Numbering.{kind_numbered}
-use Rattle.passes.proofs.PlanMasks.{Steady, changed, placed, stays_made, system_made, fits_same}
+use Rattle.passes.proofs.PlanBasics.{parameter_told, fits_same, Steady, placed, stays_made, system_made}
 
 abbrev kept : Bool → ParameterChange
 kept b = elim b [ true ↦ Stays | false ↦ Goes ]
@@ -48,7 +48,7 @@ module _ (a : Alg) (s : System) (P : Plan) (fit : SystemFits a s) (plans : needi
   kind_is i e p n l =
       let b = get_or (get_or (needed s) i []) n false in
       kind_numbered e.sorts (change_of P i) n (kept b)
-      (get_or_some Goes (change_of P i).parameters n (kept b) ((changed a s P steady i e p).parameters n l)) (kept_moves b) ∙
+      (get_or_some Goes (change_of P i).parameters n (kept b) (parameter_told plans i e p n l)) (kept_moves b) ∙
       ap parameter (placed a s P steady i e p n l)
 
   pub plan_r : system_by a P s ≡ pass_r a s

@@ -34,12 +34,12 @@ module _ (a : Alg) (s : System) (P : Plan) (fit : SystemFits a s) (plan : keepin
   remaining_same j l = let (e, p) = at_some s.equations j l in remaining_told plan j e p ∙ remains_for (get_or (reachable s) j false)
 
   target_same : (j : ℕ) → j < length s.equations → place (remaining P) j ≡ to j
-  target_same j l = place_same j (remaining P) (reachable s) (λ i m. remaining_same i (omega arith))
+  target_same j l = place_same (remaining P) (reachable s) j (λ i m. remaining_same i (omega arith))
 
   equation_same : (i : ℕ) (e : Equation) → at s.equations i ≡ Some e → equation_by a P (change_of P i) e ≡ renamed to e
   equation_same i e p =
-      go (get_or (reachable s) i false) (equation_told plan i e p) ∙ whole_steady a s fit false what P plan to target_same (λ ts. ts) map-id i e p ∙
-      ap (λ ks. made_of e e.sorts e.h (map (clause_to to (λ t. t) (λ ts. ts)) ks)) (keep_every e.clauses)
+      go (get_or (reachable s) i false) (equation_told plan i e p) ∙ whole_steady a s fit false what P plan to target_same (λ j ts. ts) (λ j. map-id) i e p ∙
+      ap (λ ks. made_of e e.sorts e.h (map (clause_to to (λ t. t) (λ j ts. ts)) ks)) (keep_every (λ k. true) e.clauses (λ k. refl))
     where
       go : (b : Bool) → (change_of P i).equation ≡ change_for b → equation_by a P (change_of P i) e ≡ whole_by a P (change_of P i) e
       go true k = left_whole a P (change_of P i) e k

@@ -1,19 +1,17 @@
 -- The plans of the four passes.
-use Rattle.std.specs.Prelude.{◌≡◌, ℕ, ◌<◌, Bool, true, false, List, [], length, Some, None, Option, slice_index_or}
+use Rattle.std.specs.Prelude.{◌≡◌, ℕ, ◌<◌, Bool, true, false, [], length, Some, None, Option, slice_index_or}
 use Rattle.definitions.specs.Lists.{at}
 use Rattle.definitions.specs.Alg.{Alg}
 use Rattle.definitions.specs.Systems.{Equation, System}
 use Rattle.definitions.specs.Values.{known, is_false}
 use Rattle.definitions.specs.Constants.{Known, least_knowledge}
 use Rattle.definitions.specs.Passes.{needed, reachable}
-use Rattle.definitions.specs.Fits.{SystemFits}
 use Rattle.passes.specs.declared.plan.ParameterChange.{ParameterChange}
 use Rattle.passes.specs.declared.plan.ParameterChange.TheVariants.{Stays, Goes, Becomes}
 use Rattle.passes.specs.declared.plan.EquationChange.{EquationChange}
 use Rattle.passes.specs.declared.plan.EquationChange.TheVariants as equation
 use Rattle.passes.specs.declared.plan.Change.{Change}
 use Rattle.passes.specs.declared.plan.Plan.{Plan}
-use Rattle.passes.specs.Planned.{change_of}
 
 -- a change of an equation by what becomes of it, and of its parameters by what becomes of each
 pub record Changes (e : Equation) (what : EquationChange) (each : ℕ → ParameterChange) (c : Change) : Type 0 where
@@ -45,4 +43,4 @@ becomes (Some ks) n = elim (slice_index_or ks n None) [ None ↦ Stays | Some v 
 abbrev pub knowing : Alg → System → Plan → Type 0
 knowing a s P =
     Plans s false (λ i e. elim (slice_index_or (least_knowledge a s) i None) [ None ↦ equation.Bare | Some ks ↦ equation.Stays ])
-        (λ i e. becomes (slice_index_or (least_knowledge a s) i None)) P
+    (λ i e. becomes (slice_index_or (least_knowledge a s) i None)) P

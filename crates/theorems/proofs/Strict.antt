@@ -31,14 +31,14 @@ module _ (f : ℕ → Kind) where
   kind_stays equal h = refl
 
   mutual
-    replaced_stays : (t : Term) → OnKinds t (OnParameters (λ n. f n ≡ parameter n)) → replaced f t ≡ t
+    pub replaced_stays : (t : Term) → OnKinds t (OnParameters (λ n. f n ≡ parameter n)) → replaced f t ≡ t
     replaced_stays (node k ts) h = ap₂ (λ (k : Kind) (ts : Terms). node k ts) (kind_stays k h.0) (all_stay ts h.1)
 
     all_stay : (ts : Terms) → OnAll ts (OnParameters (λ n. f n ≡ parameter n)) → terms (folds ts (λ k parts. term (on_parameter f k) parts)) ≡ ts
     all_stay none h = refl
     all_stay (more t ts) h = ap₂ (λ (t : Term) (ts : Terms). more t ts) (replaced_stays t h.0) (all_stay ts h.1)
 
-on_parameters : {P Q : ℕ → Type 0} → ((n : ℕ) → P n → Q n) → (k : Kind) → OnParameters P k → OnParameters Q k
+pub on_parameters : {P Q : ℕ → Type 0} → ((n : ℕ) → P n → Q n) → (k : Kind) → OnParameters P k → OnParameters Q k
 on_parameters f (parameter n) h = f n h
 on_parameters f (variable n) h = tt
 on_parameters f (value s v) h = tt

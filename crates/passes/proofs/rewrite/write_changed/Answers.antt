@@ -12,7 +12,8 @@ use Rattle.passes.specs.declared.plan.Change.{Change}
 use Rattle.passes.specs.declared.plan.Plan.{Plan}
 use Rattle.passes.specs.Planned.{equation_by, body_left, Narrow}
 use Rattle.passes.proofs.TermBits.{left_last}
-use Rattle.passes.proofs.Masks.{every_more, writes_same}
+use Rattle.theorems.proofs.Listing.{every_with}
+use Rattle.passes.proofs.Masks.{writes_same}
 use Rattle.passes.proofs.rewrite.write_changed.Goals as goal
 
 abbrev bare_bits : List ℕ
@@ -37,5 +38,5 @@ returns-in-Stays g c = λ e q short headers head fit read.
     let x = c.write_body in
     let same : e.sorts ≡ c.as_slice-sorts.result.now = ap (λ (h : Header). h.sorts) headers ∙ sym c.as_slice-sorts.ensures in
     let few = head.few in
-    let narrow : Narrow e.sorts = record { few = omega arith; small = every_more (SortFits a) (λ n. n < 16) (λ n p. p.0) e.sorts head.sorts } in
+    let narrow : Narrow e.sorts = record { few = omega arith; small = every_with (SortFits a) (λ n. n < 16) e.sorts head.sorts (λ n p. p.0) } in
     writes_same c.args.writer.now x.new.writer x.result (sym (whole_left a c.args.plan.now c.args.change.now e c.in-Stays.is)) (x.ensures e (header_of e) q short (subst Narrow same narrow) same refl fit read c.in-Stays.is)

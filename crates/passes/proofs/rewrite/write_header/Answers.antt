@@ -21,7 +21,10 @@ use Rattle.passes.specs.declared.plan.Change.{Change}
 use Rattle.passes.specs.Planned.{mask}
 use Rattle.passes.specs.Rewrites.{quantified_bits}
 use Rattle.passes.proofs.TermBits.{left_last}
-use Rattle.passes.proofs.Masks.{struck_long, place_within, every_more, left_none, left_same, wrote_same, writes_same}
+use Rattle.theorems.proofs.Refit.{place_low}
+use Rattle.theorems.proofs.Listing.{every_with}
+use Rattle.passes.proofs.Numbering.{struck_long}
+use Rattle.passes.proofs.Masks.{left_none, left_same, wrote_same, writes_same}
 use Rattle.passes.proofs.Heads.{sign_bit, sign_small, variables_bits, sorts_bits, head_bits, headed, is_bare, all_variables}
 use Rattle.passes.proofs.rewrite.write_header.Goals as goal
 
@@ -39,10 +42,10 @@ number : (h : Header) (c : Change) (m n : ℕ) → n ≡ place (mask c) m → m 
 number h c m n e d = e ∙ ap (place (mask c)) d ∙ sym (struck_long (mask c) h.sorts)
 
 number_small : (h : Header) (c : Change) (m n : ℕ) → n ≡ place (mask c) m → m ≡ length h.sorts → length h.sorts < 16 → n < 16
-number_small h c m n e d s = let l = place_within (mask c) m in omega arith
+number_small h c m n e d s = let l = place_low (mask c) m in omega arith
 
 narrow : (a : Alg) (h : Header) → HeaderFits a h → Every (λ n. n < 16) h.sorts
-narrow a h k = every_more (SortFits a) (λ n. n < 16) (λ n p. p.0) h.sorts k.sorts
+narrow a h k = every_with (SortFits a) (λ n. n < 16) h.sorts k.sorts (λ n p. p.0)
 
 pub returns-in_err-put : goal.returns-in_err-put
 returns-in_err-put c = λ a P e s k.
@@ -142,7 +145,7 @@ returns c = λ a P e s k.
     let m2 : c.len-2.result ≡ length vs = c.len-2.ensures.count ∙ sym (length-map (listed h.quantified) kept_quantified) in
     let few2 = k.few_quantified in
     let l5 = left_next {rest = flat (map quantified_bits vs)} (bits 2 (length vs)) c.put-3.new.self l4 (subst (λ (k : ℕ). Wrote (bits 2 k) c.write_staying.new.writer c.put-3.new.self) m2 (c.in_ok-put-3.ensures.writes (omega arith) (omega arith))) in
-    let small = every_more (λ (q : Quantified). SortFits a q.sort) (λ (q : Quantified). q.sort < 16) (λ q p. p.0) vs k.quantified in
+    let small = every_with (λ (q : Quantified). SortFits a q.sort) (λ (q : Quantified). q.sort < 16) vs k.quantified (λ q p. p.0) in
     let w = c.write_variables in
     writes_same c.args.writer.now w.new.writer w.result (sym all)
     (left_last (flat (map quantified_bits vs)) w.new.writer w.result l5

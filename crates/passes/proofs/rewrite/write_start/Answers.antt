@@ -12,7 +12,8 @@ use Rattle.system.specs.Files.{kept_header}
 use Rattle.system.proofs.Lists.{at_item}
 use Rattle.passes.specs.Planned.{mask, remaining, change_of}
 use Rattle.passes.proofs.TermBits.{left_last}
-use Rattle.passes.proofs.Masks.{place_within, left_none}
+use Rattle.theorems.proofs.Refit.{place_low}
+use Rattle.passes.proofs.Masks.{left_none}
 use Rattle.passes.proofs.rewrite.write_start.Goals as goal
 
 values_long : (a : Alg) (ss vs : List ℕ) → ValuesFit a ss vs → length ss ≡ length vs
@@ -38,7 +39,7 @@ returns-in_err-put g c = λ s o f.
     let w = c.args.writer.now in
     let there = out.present in
     let within = listed_within out.equations in
-    let least = place_within (remaining P) out.start.equation in
+    let least = place_low (remaining P) out.start.equation in
     let number : c.number_of.result ≡ place (remaining P) out.start.equation = c.number_of.ensures in
     let rest = flat (map (bits 8) (strike (mask (change_of P s.start)) s.values)) in
     let r = c.from_residual in
@@ -53,7 +54,7 @@ returns g c = λ s o f.
     let w = c.args.writer.now in
     let there = out.present in
     let within = listed_within out.equations in
-    let least = place_within (remaining P) out.start.equation in
+    let least = place_low (remaining P) out.start.equation in
     let number : c.number_of.result ≡ place (remaining P) out.start.equation = c.number_of.ensures in
     let rest = flat (map (bits 8) (strike (mask (change_of P s.start)) s.values)) in
     let l = left_next {rest = rest} (bits 5 (place (remaining P) s.start)) c.put.new.self (left_first (bits 5 (place (remaining P) s.start) ++ rest) w)

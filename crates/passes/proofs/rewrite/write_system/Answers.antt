@@ -15,8 +15,11 @@ use Rattle.passes.specs.declared.plan.Change.{Change}
 use Rattle.passes.specs.Planned.{mask, remaining, change_of, equation_by}
 use Rattle.passes.specs.Rewrites.{HeaderThere, changed}
 use Rattle.passes.proofs.TermBits.{left_last}
-use Rattle.passes.proofs.Masks.{struck_long, place_within, left_none, wrote_same}
-use Rattle.passes.proofs.Equations.{numbered_long, struck_changed, headers_there, equations_there}
+use Rattle.theorems.proofs.Refit.{place_low}
+use Rattle.theorems.proofs.Listing.{map_from_long}
+use Rattle.passes.proofs.Numbering.{struck_long}
+use Rattle.passes.proofs.Masks.{left_none, wrote_same}
+use Rattle.passes.proofs.Equations.{struck_changed, headers_there, equations_there}
 use Rattle.passes.proofs.rewrite.write_system.Goals as goal
 
 pub returns-in_err-put : goal.returns-in_err-put
@@ -37,9 +40,9 @@ returns-in_err-put g c = λ s short o k.
     let start = bits 5 (place (remaining P) s.start) ++ flat (map (bits 8) (strike (mask (change_of P s.start)) s.values)) in
     let n = length c.as_slice-equations.result.now in
     let many : n ≡ length es = ap length c.as_slice-equations.ensures ∙ o.count in
-    let number : c.number_of.result ≡ length S = c.number_of.ensures ∙ ap (place (remaining P)) many ∙ sym (struck_long (remaining P) (map_from 0 (λ i e. equation_by a P (change_of P i) e) es) ∙ ap (place (remaining P)) (numbered_long 0 (λ i e. equation_by a P (change_of P i) e) es)) in
+    let number : c.number_of.result ≡ length S = c.number_of.ensures ∙ ap (place (remaining P)) many ∙ sym (struck_long (remaining P) (map_from 0 (λ i e. equation_by a P (change_of P i) e) es) ∙ ap (place (remaining P)) (map_from_long 0 (λ i e. equation_by a P (change_of P i) e) es)) in
     let placed : c.number_of.result ≡ place (remaining P) n = c.number_of.ensures in
-    let least = place_within (remaining P) n in
+    let least = place_low (remaining P) n in
     let few = k.few in
     let l0 = left_first (count ++ (heads ++ (bodies ++ start))) w in
     let r = c.from_residual in
@@ -63,9 +66,9 @@ returns-in_err-write_headers g c = λ s short o k.
     let start = bits 5 (place (remaining P) s.start) ++ flat (map (bits 8) (strike (mask (change_of P s.start)) s.values)) in
     let n = length c.as_slice-equations.result.now in
     let many : n ≡ length es = ap length c.as_slice-equations.ensures ∙ o.count in
-    let number : c.number_of.result ≡ length S = c.number_of.ensures ∙ ap (place (remaining P)) many ∙ sym (struck_long (remaining P) (map_from 0 (λ i e. equation_by a P (change_of P i) e) es) ∙ ap (place (remaining P)) (numbered_long 0 (λ i e. equation_by a P (change_of P i) e) es)) in
+    let number : c.number_of.result ≡ length S = c.number_of.ensures ∙ ap (place (remaining P)) many ∙ sym (struck_long (remaining P) (map_from 0 (λ i e. equation_by a P (change_of P i) e) es) ∙ ap (place (remaining P)) (map_from_long 0 (λ i e. equation_by a P (change_of P i) e) es)) in
     let placed : c.number_of.result ≡ place (remaining P) n = c.number_of.ensures in
-    let least = place_within (remaining P) n in
+    let least = place_low (remaining P) n in
     let few = k.few in
     let l0 = left_first (count ++ (heads ++ (bodies ++ start))) w in
     let l1 = left_next {rest = heads ++ (bodies ++ start)} count c.put.new.self l0 (subst (λ (j : ℕ). Wrote (bits 5 j) w c.put.new.self) number (c.in_ok-put.ensures.writes (omega arith) (omega arith))) in
@@ -93,9 +96,9 @@ returns-in_err-write_bodies g c = λ s short o k.
     let start = bits 5 (place (remaining P) s.start) ++ flat (map (bits 8) (strike (mask (change_of P s.start)) s.values)) in
     let n = length c.as_slice-equations.result.now in
     let many : n ≡ length es = ap length c.as_slice-equations.ensures ∙ o.count in
-    let number : c.number_of.result ≡ length S = c.number_of.ensures ∙ ap (place (remaining P)) many ∙ sym (struck_long (remaining P) (map_from 0 (λ i e. equation_by a P (change_of P i) e) es) ∙ ap (place (remaining P)) (numbered_long 0 (λ i e. equation_by a P (change_of P i) e) es)) in
+    let number : c.number_of.result ≡ length S = c.number_of.ensures ∙ ap (place (remaining P)) many ∙ sym (struck_long (remaining P) (map_from 0 (λ i e. equation_by a P (change_of P i) e) es) ∙ ap (place (remaining P)) (map_from_long 0 (λ i e. equation_by a P (change_of P i) e) es)) in
     let placed : c.number_of.result ≡ place (remaining P) n = c.number_of.ensures in
-    let least = place_within (remaining P) n in
+    let least = place_low (remaining P) n in
     let few = k.few in
     let l0 = left_first (count ++ (heads ++ (bodies ++ start))) w in
     let l1 = left_next {rest = heads ++ (bodies ++ start)} count c.put.new.self l0 (subst (λ (j : ℕ). Wrote (bits 5 j) w c.put.new.self) number (c.in_ok-put.ensures.writes (omega arith) (omega arith))) in
@@ -126,9 +129,9 @@ returns g c = λ s short o k.
     let start = bits 5 (place (remaining P) s.start) ++ flat (map (bits 8) (strike (mask (change_of P s.start)) s.values)) in
     let n = length c.as_slice-equations.result.now in
     let many : n ≡ length es = ap length c.as_slice-equations.ensures ∙ o.count in
-    let number : c.number_of.result ≡ length S = c.number_of.ensures ∙ ap (place (remaining P)) many ∙ sym (struck_long (remaining P) (map_from 0 (λ i e. equation_by a P (change_of P i) e) es) ∙ ap (place (remaining P)) (numbered_long 0 (λ i e. equation_by a P (change_of P i) e) es)) in
+    let number : c.number_of.result ≡ length S = c.number_of.ensures ∙ ap (place (remaining P)) many ∙ sym (struck_long (remaining P) (map_from 0 (λ i e. equation_by a P (change_of P i) e) es) ∙ ap (place (remaining P)) (map_from_long 0 (λ i e. equation_by a P (change_of P i) e) es)) in
     let placed : c.number_of.result ≡ place (remaining P) n = c.number_of.ensures in
-    let least = place_within (remaining P) n in
+    let least = place_low (remaining P) n in
     let few = k.few in
     let l0 = left_first (count ++ (heads ++ (bodies ++ start))) w in
     let l1 = left_next {rest = heads ++ (bodies ++ start)} count c.put.new.self l0 (subst (λ (j : ℕ). Wrote (bits 5 j) w c.put.new.self) number (c.in_ok-put.ensures.writes (omega arith) (omega arith))) in

@@ -9,7 +9,8 @@ use Rattle.system.specs.Walks.{Pairs}
 use Rattle.passes.specs.Planned.{mask, remaining, change_of, term_by, occurrence_by}
 use Rattle.passes.specs.Rewrites.{TermAt}
 use Rattle.passes.proofs.TermBits.{left_last}
-use Rattle.passes.proofs.Masks.{place_within, left_none}
+use Rattle.theorems.proofs.Refit.{place_low}
+use Rattle.passes.proofs.Masks.{left_none}
 use Rattle.passes.proofs.Places.{terms_there}
 use Rattle.passes.proofs.written.Edit.write_occurrence.Goals as goal
 
@@ -20,7 +21,7 @@ returns-in_err-put g c = λ o vs q n s f.
     let w = c.args.writer.now in
     let t = c.args.occurrence.now.target in
     let few = c.args.occurrence.now.present in
-    let least = place_within (remaining P) t in
+    let least = place_low (remaining P) t in
     let number : c.number_of.result ≡ place (remaining P) t = c.number_of.ensures in
     let same : c.number_of.result ≡ place (remaining P) o.target = number ∙ ap (place (remaining P)) f.target in
     let r = c.from_residual in
@@ -36,7 +37,7 @@ returns g c = λ o vs q n s f.
     let w = c.args.writer.now in
     let t = c.args.occurrence.now.target in
     let few = c.args.occurrence.now.present in
-    let least = place_within (remaining P) t in
+    let least = place_low (remaining P) t in
     let number : c.number_of.result ≡ place (remaining P) t = c.number_of.ensures in
     let same : c.number_of.result ≡ place (remaining P) o.target = number ∙ ap (place (remaining P)) f.target in
     let rest = λ (k : ℕ). flat (map term_bits (map F (strike (mask (change_of P k)) o.arguments))) in
