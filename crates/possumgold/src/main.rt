@@ -121,7 +121,7 @@ fn answer(rt: &HostRuntime, input: &[u8]) -> Result<Verdict, Stopped> {
 }
 
 fn main(rt: HostRuntime) -> io::Result<()> {
-    // Each program begins with these two lines: it reads all of its input. What it makes of that is its own.
+    // Each program begins so: it reads all of its input. What it makes of that is its own.
     let mut input = Vec::new(rt.alloc());
     rt.stdin().read_to_end(&mut input)?;
     match answer(&rt, &input) {

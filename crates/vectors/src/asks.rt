@@ -8,7 +8,7 @@ use std::alloc::{AllocError, Global};
 use std::fmt::Write;
 use std::{fmt, io};
 
-// A script's numbers are cut by a mask, once for each width: no conversion of the library cuts, and a cast names one type.
+// A script's numbers are cut by a mask: no conversion of the library cuts, and a cast names one type.
 
 fn filled(heap: Global, outcome: Result<(), TableFault>) -> Result<String, AllocError> {
     match outcome {

@@ -1,7 +1,7 @@
 //! Fields as a script writes them.
 use bits::BitWriter;
 
-// What a field leaves out is 0, and a field that does not fit is left out.
+// A value or a width that is left out is 0, how often 1; a field that does not fit is left out.
 
 fn number(text: &str) -> u32 {
     text.parse::<u32>().unwrap_or(0)
