@@ -11,3 +11,4 @@ pub mod PlanC
 pub mod PlanBasics
 pub mod PlanF
 pub mod PlanU
+pub mod Applying

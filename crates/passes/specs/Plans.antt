@@ -1,17 +1,39 @@
 -- The plans of the four passes.
-use Rattle.std.specs.Prelude.{◌≡◌, ℕ, ◌<◌, Bool, true, false, [], length, Some, None, Option, slice_index_or}
+use Rattle.std.specs.Prelude.{◌≡◌, ℕ, ◌<◌, ◌≤◌, Bool, true, false, List, [], length, replicate, Some, None, Option, Ok, Err, Result, slice_index_or}
 use Rattle.definitions.specs.Lists.{at}
 use Rattle.definitions.specs.Alg.{Alg}
 use Rattle.definitions.specs.Systems.{Equation, System}
 use Rattle.definitions.specs.Values.{known, is_false}
 use Rattle.definitions.specs.Constants.{Known, least_knowledge}
 use Rattle.definitions.specs.Passes.{needed, reachable}
+use Rattle.definitions.specs.Fits.{SystemFits}
+use Rattle.definitions.specs.Settle.{Pass}
+use Rattle.system.specs.declared.outline.Outline.{Outline}
+use Rattle.system.specs.Whole.{Outlined}
 use Rattle.passes.specs.declared.plan.ParameterChange.{ParameterChange}
 use Rattle.passes.specs.declared.plan.ParameterChange.TheVariants.{Stays, Goes, Becomes}
 use Rattle.passes.specs.declared.plan.EquationChange.{EquationChange}
 use Rattle.passes.specs.declared.plan.EquationChange.TheVariants as equation
 use Rattle.passes.specs.declared.plan.Change.{Change}
 use Rattle.passes.specs.declared.plan.Plan.{Plan}
+use Rattle.passes.specs.declared.plan.Missing.{Missing}
+use Rattle.passes.specs.Planned.{system_by}
+
+-- the change and the plan under which all stays
+abbrev pub change_none : Change
+change_none = record { equation = equation.Stays; parameters = replicate 15 Stays }
+
+abbrev pub plan_none : Plan
+plan_none = record { fold = false; equations = replicate 31 change_none }
+
+-- the plan made is as told, and nothing is missing
+abbrev pub Planning : (Plan → Type 0) → Result Plan Missing → Type 0
+Planning R (Ok P) = R P
+Planning R (Err e) = ⊥
+
+-- the plan made of a file makes of its system what the pass m makes of it
+abbrev pub PlansAs : Pass → Alg → List ℕ → Outline → Result Plan Missing → Type 0
+PlansAs m a f o r = (s : System) → length f ≤ 65536 → Outlined a f s o → SystemFits a s → Planning (λ P. system_by a P s ≡ m a s) r
 
 -- a change of an equation by what becomes of it, and of its parameters by what becomes of each
 pub record Changes (e : Equation) (what : EquationChange) (each : ℕ → ParameterChange) (c : Change) : Type 0 where

@@ -1,5 +1,12 @@
 //! F: terms that have a known value though nothing is known become value terms.
-ghost use Rattle.std.specs.Prelude.{◌≡◌};
+ghost use Rattle.std.specs.Prelude.{◌≡◌, ◌≤◌, length};
+ghost use Rattle.definitions.specs.Systems.{System};
+ghost use Rattle.definitions.specs.Passes.{pass_f};
+ghost use Rattle.definitions.specs.Rules.{applied};
+ghost use Rattle.definitions.specs.Calls.{Applies};
+ghost use Rattle.system.specs.Whole.{Outlined};
+ghost use Rattle.passes.specs.Fronts.{Fronts};
+ghost use Rattle.passes.specs.Plans.{folding, Planning};
 ghost use Rattle.passes.specs.Rewrites.{false_at};
 
 use crate::Pass;
@@ -22,20 +29,25 @@ pub(crate) fn folds_to_false<G: Algebra>(accepted: &Accepted<G>, at: usize) -> b
 }
 
 // Everything folds, and equations whose h is then false become bare.
-fn plan_folding<G: Algebra>(accepted: &Accepted<G>) -> Result<Plan, Missing> {
+fn plan_folding<G: Algebra>(accepted: &Accepted<G>) -> Result<Plan, Missing>
+    ensures { (s : System) → length accepted.now.file.now ≤ 65536 → Outlined (G.meaning accepted.now.alg.now) accepted.now.file.now s accepted.now.outline.now → Planning (folding (G.meaning accepted.now.alg.now) s) result }
+{
     let mut plan = Plan::none();
     plan.fold = true;
-    let equations = accepted.outline.equations.as_slice();
-    for (change, equation) in plan.equations.iter_mut().zip(equations) {
+    // By index: of what an adapter of `iter_mut` has written a proof knows nothing afterwards.
+    for (i, equation) in accepted.outline.equations.as_slice().iter().enumerate() {
         if folds_to_false(accepted, equation.body) {
-            change.equation = EquationChange::Bare;
+            plan.equations[i].equation = EquationChange::Bare;
         }
     }
     Ok(plan)
 }
 
 impl Pass for Fold {
-    fn apply<G: Algebra>(&self, alg: &G, file: &[u8], out: &mut [u8]) -> Result<usize, PassFault> {
+    fn apply<G: Algebra>(&self, alg: &G, file: &[u8], out: &mut [u8]) -> Result<usize, PassFault>
+        ensures fronts { Fronts out.old out.new result }
+        ensures meant { Applies (applied pass_f (G.meaning alg.now) (length out.old) file.now) out.old out.new result }
+    {
         apply_planned(alg, file, out, plan_folding)
     }
 }

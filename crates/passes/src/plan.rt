@@ -2,6 +2,7 @@
 ghost use Rattle.std.specs.Prelude.{◌≡◌};
 ghost use Rattle.definitions.specs.Lists.{place};
 ghost use Rattle.passes.specs.Planned.{mask, remaining};
+ghost use Rattle.passes.specs.Plans.{change_none, plan_none};
 
 /// What becomes of a parameter.
 #[derive(Clone, Copy, PartialEq, Eq, Debug)]
@@ -34,7 +35,9 @@ pub struct Change {
 
 impl Change {
     /// The equation stays as it is, which the name says more plainly than `default` would.
-    pub fn none() -> Change {
+    pub fn none() -> Change
+        ensures { result ≡ change_none }
+    {
         Change {
             equation: EquationChange::Stays,
             parameters: [ParameterChange::Stays; 15],
@@ -63,7 +66,9 @@ pub struct Plan {
 
 impl Plan {
     /// The system stays as it is.
-    pub fn none() -> Plan {
+    pub fn none() -> Plan
+        ensures { result ≡ plan_none }
+    {
         Plan {
             fold: false,
             equations: [Change::none(); 31],

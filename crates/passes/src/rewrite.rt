@@ -7,6 +7,9 @@ ghost use Rattle.definitions.specs.Reading.{next};
 ghost use Rattle.definitions.specs.ReadSystem.{Header as Heading, scope, greatest_depth, read_body};
 ghost use Rattle.definitions.specs.Systems.{Term as Tree, Quantified as ReadQuantified, Occurrence as ReadOccurrence, Clause as ReadClause, Equation as ReadEquation, System};
 ghost use Rattle.definitions.specs.Written.{term_bits, header_bits, occurrence_bits, clause_bits, body_bits, system_bits, written};
+ghost use Rattle.definitions.specs.Settle.{Pass};
+ghost use Rattle.definitions.specs.Rules.{applied};
+ghost use Rattle.definitions.specs.Calls.{Applies};
 ghost use Rattle.definitions.specs.Fits.{Every, HeaderFits, OccurrenceFits, ClauseFits, BodyFits, SystemFits, header_of};
 ghost use Rattle.terms.specs.Shapes.{standing};
 ghost use Rattle.bits.specs.Writes.{Writes};
@@ -18,6 +21,7 @@ ghost use Rattle.passes.specs.declared.plan.Plan.{Plan as Planned};
 ghost use Rattle.passes.specs.declared.plan.EquationChange.TheVariants.{Stays};
 ghost use Rattle.passes.specs.Fronts.{Fronts};
 ghost use Rattle.passes.specs.Planned.{stays as parameter_stays, mask, remaining, change_of, term_by, occurrence_by, clause_by, clause_stays, equation_by, body_left, system_by, Narrow, Fitted};
+ghost use Rattle.passes.specs.Plans.{PlansAs};
 ghost use Rattle.passes.specs.Rewrites.{quantified_bits, TermAt, OccurrenceThere, ClauseThere, HeaderThere, EquationThere, stays_at, changed};
 
 use crate::folding::folds_to_false;
@@ -302,7 +306,8 @@ pub(crate) fn apply_planned<G: Algebra, P: Fn(&Accepted<G>) -> Result<Plan, Miss
     planned: P,
 ) -> Result<usize, PassFault>
     requires { P.IsAlwaysCallable planned }
-    ensures { Fronts out.old out.new result }
+    ensures fronts { Fronts out.old out.new result }
+    ensures meant { (m : Pass) → ((x : _) (r : _) → P.post planned x r → PlansAs m (G.meaning x.now.alg.now) x.now.file.now x.now.outline.now r) → Applies (applied m (G.meaning alg.now) (length out.old) file.now) out.old out.new result }
 {
     let outline = read(alg, file)?;
     let accepted = Accepted {
