@@ -17,6 +17,7 @@ pub mod FitShapes
 pub mod FitsC
 pub mod FitsCut
 pub mod FitsF
+pub mod Following
 pub mod Forms
 pub mod Forth
 pub mod Goods
