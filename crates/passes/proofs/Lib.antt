@@ -12,3 +12,4 @@ pub mod PlanBasics
 pub mod PlanF
 pub mod PlanU
 pub mod Applying
+pub mod Learning

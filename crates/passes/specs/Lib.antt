@@ -1,4 +1,5 @@
 pub mod Fronts
+pub mod Learned
 pub mod Letters
 pub mod Planned
 pub mod Plans

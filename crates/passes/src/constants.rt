@@ -1,4 +1,8 @@
 //! C: a parameter that has one and the same value wherever its equation is reached gives way to that value.
+ghost use Rattle.std.specs.Prelude.{◌≡◌};
+ghost use Rattle.definitions.specs.Constants.{agreed as both_know, agreed_all};
+ghost use Rattle.passes.specs.Learned.{Joins};
+
 use crate::Pass;
 use crate::plan::{Change, EquationChange, Missing, ParameterChange, Plan};
 use crate::rewrite::apply_planned;
@@ -25,20 +29,29 @@ pub enum Known {
     Followed([Option<u8>; 15]),
 }
 
+// The value that both know.
+fn agreed(x: Option<u8>, y: Option<u8>) -> Option<u8>
+    ensures { result ≡ both_know x y }
+{
+    if x == y { x } else { None }
+}
+
 // The values that both know.
-fn shared(x: &Values, y: &Values) -> Values {
-    let mut values = *x;
-    for (value, other) in values.iter_mut().zip(y) {
-        if *value != *other {
-            *value = None;
-        }
+fn shared(x: &Values, y: &Values) -> Values
+    ensures { result ≡ agreed_all x.now y.now }
+{
+    let mut values = [None; 15];
+    for (i, value) in x.iter().enumerate() {
+        values[i] = agreed(*value, y[i]);
     }
     values
 }
 
 impl Known {
     // What is known with an instance more, of which these values are known.
-    fn joined(self, values: Values) -> Known {
+    fn joined(self, values: Values) -> Known
+        ensures { Joins self values result }
+    {
         match self {
             Known::Unreached => Known::Fresh(values),
             Known::Fresh(old) => Known::Fresh(shared(&old, &values)),
