@@ -1,9 +1,9 @@
 -- Values and tables of what is known, as the pass C keeps them.
-use Rattle.std.proofs.Common.{◌≡◌, ℕ, zero, suc, ◌+◌, ◌*◌, ◌<◌, ◌≤◌, Bool, true, false, eqb, nat_eq, ◌⊎◌, inl, inr, List, [], ◌∷◌, ◌++◌, map, length, get_or, set, take, replicate, Some, None, Option, sym, refl, ap, ◌∙◌, subst, ap₂, add-one, arith, length-set}
+use Rattle.std.proofs.Common.{◌≡◌, ℕ, zero, suc, ◌+◌, ◌*◌, ◌<◌, ◌≤◌, Bool, true, false, eqb, nat_eq, ◌⊎◌, inl, inr, List, [], ◌∷◌, ◌++◌, map, length, get_or, set, take, drop, replicate, Some, None, Option, sym, refl, ap, ◌∙◌, subst, ap₂, add-one, arith, length-set}
 use lib.Pointwise.{pointwise}
 use Rattle.std.specs.Option.{option_eq}
 use Rattle.std.proofs.lemmas.Bool.{eqb-true, eq-eqb, and_parts}
-use Rattle.std.proofs.lemmas.List.{take_all}
+use Rattle.std.proofs.lemmas.List.{take_all, drop_all, append-nil}
 use Rattle.definitions.specs.Constants.{Known, agreed, agreed_all, taken}
 use Rattle.terms.specs.Known.{Alike}
 use Rattle.passes.specs.declared.constants.Known.{Known as Kept}
@@ -163,3 +163,21 @@ joins_other old vs k l n = record {
 
 pub joins_as : (old new old' new' : Kept) (vs : List (Option ℕ)) → old ≡ old' → new ≡ new' → Joins old' vs new' → Joins old vs new
 joins_as old new old' new' vs e f j = subst (λ o. Joins o vs new) (sym e) (subst (λ n. Joins old' vs n) (sym f) j)
+
+-- of a list the first i are what f makes of the things xs, and the others are as they were
+abbrev pub Filling : {X Y : Type 0} → (X → Y) → List X → List Y → ℕ → List Y → Type 0
+Filling f xs es i ys = ys ≡ map f (take i xs) ++ drop i es
+
+module _ {X Y : Type 0} (f : X → Y) where
+  set_next : (xs : List X) (es : List Y) (i : ℕ) (d : X) → i < length xs → i < length es → set (map f (take i xs) ++ drop i es) i (f (get_or xs i d)) ≡ map f (take (suc i) xs) ++ drop (suc i) es
+  set_next [] es i d l k = absurd (omega arith)
+  set_next (x ∷ xs) [] i d l k = absurd (omega arith)
+  set_next (x ∷ xs) (e ∷ es) zero d l k = refl
+  set_next (x ∷ xs) (e ∷ es) (suc i) d l k = ap (λ z. f x ∷ z) (set_next xs es i d (omega arith) (omega arith))
+
+  pub filling_next : (xs : List X) (es ys : List Y) (i : ℕ) (d : X) (y : Y) → i < length xs → i < length es → y ≡ f (get_or xs i d) → Filling f xs es i ys → Filling f xs es (i + 1) (set ys i y)
+  filling_next xs es ys i d y l k e h =
+      ap₂ (λ zs z. set zs i z) h e ∙ set_next xs es i d l k ∙ ap (λ n. map f (take n xs) ++ drop n es) (sym (add-one i))
+
+  pub filling_end : (xs : List X) (es ys : List Y) (i : ℕ) → length xs ≤ i → length es ≤ i → Filling f xs es i ys → ys ≡ map f xs
+  filling_end xs es ys i l k h = h ∙ ap₂ (λ us vs. map f us ++ vs) (take_all i xs l) (drop_all i es k) ∙ append-nil (map f xs)

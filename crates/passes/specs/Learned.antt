@@ -1,11 +1,19 @@
 -- What the pass C keeps of each equation, and what is brought to it.
-use Rattle.std.specs.Prelude.{◌≡◌, ℕ, suc, ◌+◌, ◌*◌, ◌<◌, ◌≤◌, Bool, true, false, List, [], ◌∷◌, map, length, Some, None, Option, Ok, Err, Result, slice_index_or}
+use Rattle.std.specs.Prelude.{◌≡◌, ℕ, suc, ◌+◌, ◌*◌, ◌<◌, ◌≤◌, Bool, true, false, List, [], ◌∷◌, map, length, replicate, Some, None, Option, Ok, Err, Result, slice_index_or}
 use Rattle.definitions.specs.Lists.{at, sum}
 use Rattle.definitions.specs.Fits.{Every}
-use Rattle.definitions.specs.Constants.{Known, Knowledge, Brought, taken, learnt_all}
+use Rattle.definitions.specs.Alg.{Alg}
+use Rattle.definitions.specs.Systems.{Occurrence, System}
+use Rattle.definitions.specs.Values.{known}
+use Rattle.definitions.specs.Constants.{Known, Knowledge, Brought, taken, learnt_all, least_knowledge}
+use Rattle.theorems.proofs.Following.{Learning}
 use Rattle.terms.specs.Known.{Alike}
 use Rattle.passes.specs.declared.constants.Known.{Known as Kept}
 use Rattle.passes.specs.declared.constants.Known.TheVariants.{Unreached, Fresh, Followed}
+use Rattle.passes.specs.declared.plan.ParameterChange.{ParameterChange}
+use Rattle.passes.specs.declared.plan.ParameterChange.TheVariants.{Stays, Goes, Becomes}
+use Rattle.passes.specs.declared.plan.EquationChange.TheVariants as equation
+use Rattle.passes.specs.declared.plan.Change.{Change}
 use Rattle.passes.specs.declared.plan.Missing.{Missing}
 
 -- what is known of an equation, as it is kept
@@ -51,12 +59,16 @@ pub record Joins (old : Kept) (vs : List (Option ℕ)) (new : Kept) : Type 0 whe
   pub kept : followed new ≡ true → new ≡ old
   pub less : rank new ≤ rank old
 
+-- what an occurrence brings
+abbrev pub occurrence_brings : Alg → Known → Occurrence → Brought
+occurrence_brings a ks o = (o.target, map (known a ks) o.arguments)
+
 -- what is brought is learnt
 pub record Brings (bs : List Brought) (old new : List Kept) : Type 0 where
   pub shows : (K : Knowledge) → Every (λ b. b.0 < length K) bs → Shows old K → Shows new (learnt_all K bs)
   pub kept : (i : ℕ) → followed (kept_at new i) ≡ true → kept_at new i ≡ kept_at old i
 
-abbrev pub Follows : List Brought → List Kept → List Kept → Result (Unit {0}) Missing → Type 0
+abbrev pub Follows : {X : Type 0} → List Brought → List Kept → List Kept → Result X Missing → Type 0
 Follows bs old new (Ok x) = Brings bs old new
 Follows bs old new (Err e) = ⊥
 
@@ -64,3 +76,25 @@ Follows bs old new (Err e) = ⊥
 abbrev pub NextFresh : List Kept → Option (ℕ × List (Option ℕ)) → Type 0
 NextFresh T None = (i : ℕ) → fresh (kept_at T i) ≡ false
 NextFresh T (Some x) = at T x.0 ≡ Some (Fresh x.1)
+
+-- what becomes of an equation and of each of its parameters
+abbrev pub put : Option ℕ → ParameterChange
+put None = Stays
+put (Some v) = Becomes v
+
+abbrev pub changing : Kept → Change
+changing Unreached = record { equation = equation.Bare; parameters = replicate 15 Goes }
+changing (Fresh vs) = record { equation = equation.Stays; parameters = map put vs }
+changing (Followed vs) = record { equation = equation.Stays; parameters = map put vs }
+
+-- what is kept is on the way to the least knowledge
+abbrev pub Learnt : Alg → System → List Kept → Type 0
+Learnt a s T = (K : Knowledge) × Shows T K × Learning a s (λ i. followed (kept_at T i)) K
+
+abbrev pub Learns : {X : Type 0} → Alg → System → List Kept → Result X Missing → Type 0
+Learns a s T (Ok x) = Learnt a s T
+Learns a s T (Err e) = ⊥
+
+abbrev pub Least : Alg → System → Result (List Kept) Missing → Type 0
+Least a s (Ok T) = Shows T (least_knowledge a s)
+Least a s (Err e) = ⊥
