@@ -4,11 +4,21 @@ use lib.Pointwise.{pointwise}
 use Rattle.std.specs.Option.{option_eq}
 use Rattle.std.proofs.lemmas.Bool.{eqb-true, eq-eqb, and_parts}
 use Rattle.std.proofs.lemmas.List.{take_all, drop_all, append-nil}
-use Rattle.definitions.specs.Constants.{Known, agreed, agreed_all, taken}
+use Rattle.definitions.specs.Lists.{at, bind, flat}
+use Rattle.definitions.specs.Alg.{Alg}
+use Rattle.definitions.specs.Systems.{Term, Occurrence, Clause, Equation}
+use Rattle.definitions.specs.ReadSystem.{greatest_depth}
+use Rattle.definitions.specs.Values.{known, is_false}
+use Rattle.definitions.specs.Constants.{Known, Knowledge, Brought, agreed, agreed_all, taken, learnt, learnt_all, clause_brings, equation_brings}
+use Rattle.definitions.specs.Fits.{Every}
 use Rattle.terms.specs.Known.{Alike}
+use Rattle.terms.specs.Shapes.{standing}
+use Rattle.system.specs.Walks.{Pairs}
+use Rattle.theorems.proofs.Listing.{every_left, every_right}
 use Rattle.passes.specs.declared.constants.Known.{Known as Kept}
 use Rattle.passes.specs.declared.constants.Known.TheVariants.{Unreached, Fresh, Followed}
-use Rattle.passes.specs.Learned.{Tells, followed, values_known, rank, Joins}
+use Rattle.passes.specs.Learned.{Tells, Shows, kept_at, followed, values_known, rank, ranks, Joins, Brings, occurrence_brings}
+use Rattle.passes.proofs.Along.{met, none_left}
 
 -- lists of one length that tell the same are the same
 pub alike_same : (xs ys : List (Option ℕ)) → length xs ≡ length ys → Alike xs ys → xs ≡ ys
@@ -181,3 +191,117 @@ module _ {X Y : Type 0} (f : X → Y) where
 
   pub filling_end : (xs : List X) (es ys : List Y) (i : ℕ) → length xs ≤ i → length es ≤ i → Filling f xs es i ys → ys ≡ map f xs
   filling_end xs es ys i l k h = h ∙ ap₂ (λ us vs. map f us ++ vs) (take_all i xs l) (drop_all i es k) ∙ append-nil (map f xs)
+
+-- one entry of a table changes
+shows_set : (T : List Kept) (K : Knowledge) (t : ℕ) (x : Kept) (ks : Known) → t < length T → t < length K → Tells x (Some (taken (get_or K t None) ks)) → Shows T K → Shows (set T t x) (learnt K t ks)
+shows_set [] K t x ks l m h s i = absurd (omega arith)
+shows_set (y ∷ T) [] t x ks l m h s i = absurd (omega arith)
+shows_set (y ∷ T) (k ∷ K) zero x ks l m h s zero = h
+shows_set (y ∷ T) (k ∷ K) zero x ks l m h s (suc i) = s (suc i)
+shows_set (y ∷ T) (k ∷ K) (suc t) x ks l m h s zero = s 0
+shows_set (y ∷ T) (k ∷ K) (suc t) x ks l m h s (suc i) = shows_set T K t x ks (omega arith) (omega arith) h (λ j. s (suc j)) i
+
+kept_set : (T : List Kept) (t : ℕ) (x : Kept) → (followed x ≡ true → x ≡ kept_at T t) → (i : ℕ) → followed (kept_at (set T t x) i) ≡ true → kept_at (set T t x) i ≡ kept_at T i
+kept_set [] t x h i f = refl
+kept_set (y ∷ T) zero x h zero f = h f
+kept_set (y ∷ T) zero x h (suc i) f = refl
+kept_set (y ∷ T) (suc t) x h zero f = refl
+kept_set (y ∷ T) (suc t) x h (suc i) f = kept_set T t x h i f
+
+pub ranks_set : (T : List Kept) (t : ℕ) (x : Kept) → t < length T → ranks (set T t x) + rank (kept_at T t) ≡ ranks T + rank x
+ranks_set [] t x l = absurd (omega arith)
+ranks_set (y ∷ T) zero x l = omega arith
+ranks_set (y ∷ T) (suc t) x l = omega (arith, ranks_set T t x (omega arith))
+
+pub learnt_less : (T : List Kept) (t : ℕ) (vs : List (Option ℕ)) (x : Kept) → t < length T → Joins (kept_at T t) vs x → ranks (set T t x) ≤ ranks T
+learnt_less T t vs x l j = omega (arith, ranks_set T t x l, j.less)
+
+pub learnt_brings : (T : List Kept) (t : ℕ) (vs : List (Option ℕ)) (x : Kept) → t < length T → Joins (kept_at T t) vs x → (ks : Known) → Alike vs ks → Brings ((t, ks) ∷ []) T (set T t x)
+learnt_brings T t vs x l j ks h = record {
+  shows = λ K m s. shows_set T K t x ks l m.0 (j.tells (get_or K t None) ks (s t) h) s;
+  kept = kept_set T t x j.kept;
+}
+
+-- one thing after another is brought
+pub brings_none : (T : List Kept) → Brings [] T T
+brings_none T = record { shows = λ K m s. s; kept = λ i f. refl }
+
+learnt_append : (bs cs : List Brought) (K : Knowledge) → learnt_all K (bs ++ cs) ≡ learnt_all (learnt_all K bs) cs
+learnt_append [] cs K = refl
+learnt_append (b ∷ bs) cs K = learnt_append bs cs (learnt K b.0 b.1)
+
+learnt_long : (K : Knowledge) (t : ℕ) (ks : Known) → length (learnt K t ks) ≡ length K
+learnt_long [] t ks = refl
+learnt_long (k ∷ K) zero ks = refl
+learnt_long (k ∷ K) (suc t) ks = ap suc (learnt_long K t ks)
+
+all_long : (bs : List Brought) (K : Knowledge) → length (learnt_all K bs) ≡ length K
+all_long [] K = refl
+all_long (b ∷ bs) K = all_long bs (learnt K b.0 b.1) ∙ learnt_long K b.0 b.1
+
+pub brings_join : (bs cs : List Brought) {T U V : List Kept} → Brings bs T U → Brings cs U V → Brings (bs ++ cs) T V
+brings_join bs cs {T} {U} {V} g h = record {
+  shows = λ K m s.
+      let k = every_left (λ (b : Brought). b.0 < length K) bs cs m in
+      let l = every_right (λ (b : Brought). b.0 < length K) bs cs m in
+      subst (Shows V) (sym (learnt_append bs cs K))
+      (h.shows (learnt_all K bs) (subst (λ n. Every (λ (b : Brought). b.0 < n) cs) (sym (all_long bs K)) l) (g.shows K k s));
+  kept = λ i f. let e = h.kept i f in e ∙ g.kept i (ap followed (sym e) ∙ f);
+}
+
+pub brings_same : {bs cs : List Brought} {T U : List Kept} → bs ≡ cs → Brings bs T U → Brings cs T U
+brings_same {T = T} {U = U} e h = subst (λ (bs : List Brought). Brings bs T U) e h
+
+-- of the things ys some have brought what they bring, and the others belong to xs
+pub record Bringing {X Y : Type 0} (R : X → Y → Type 0) (f : Y → List Brought) (ys : List Y) (xs : List X) (old now : List Kept) : Type 0 where
+  pub left : List Y
+  pub pairs : Pairs R xs left
+  pub brings : (new : List Kept) → Brings (flat (map f left)) now new → Brings (flat (map f ys)) old new
+
+module _ {X Y : Type 0} (R : X → Y → Type 0) (f : Y → List Brought) where
+  pub bringing_first : (xs : List X) (ys : List Y) (T : List Kept) → Pairs R xs ys → Bringing R f ys xs T T
+  bringing_first xs ys T h = record { left = ys; pairs = h; brings = λ new b. b }
+
+  pub bringing_next : {ys : List Y} {xs more : List X} {old now : List Kept} (x : X) (new : List Kept) → xs ≡ x ∷ more → Bringing R f ys xs old now → ((y : Y) → R x y → Brings (f y) now new) → Bringing R f ys more old new
+  bringing_next x new e l w =
+      let m = met R x l.left e l.pairs in
+      record {
+        left = m.rest;
+        pairs = m.there;
+        brings = λ then b. l.brings then (brings_same (ap (λ zs. flat (map f zs)) (sym m.is)) (brings_join (f m.first) (flat (map f m.rest)) (w m.first m.here) b));
+      }
+
+  pub bringing_stop : {ys : List Y} {xs more : List X} {old now : List Kept} (x : X) → xs ≡ x ∷ more → Bringing R f ys xs old now → ((y : Y) → R x y → ⊥) → ⊥
+  bringing_stop x e l w = let m = met R x l.left e l.pairs in w m.first m.here
+
+  pub bringing_end : {ys : List Y} {xs : List X} {old : List Kept} (now : List Kept) → length xs ≡ 0 → Bringing R f ys xs old now → Brings (flat (map f ys)) old now
+  bringing_end {xs = xs} now e l = l.brings now (brings_same (ap (λ zs. flat (map f zs)) (sym (none_left R xs l.left e l.pairs))) (brings_none now))
+
+pub one_each : {Y : Type 0} (f : Y → Brought) (ys : List Y) → flat (map (λ y. f y ∷ []) ys) ≡ map f ys
+one_each f [] = refl
+one_each f (y ∷ ys) = ap (λ zs. f y ∷ zs) (one_each f ys)
+
+-- the known values of arguments that are read
+pub arguments_known : (a : Alg) (f : List ℕ) (ks : Known) (ps : List ℕ) (ts : List Term) → length ps ≡ length ts → ((k : ℕ) (t : Term) → at ts k ≡ Some t → standing a greatest_depth f (get_or ps k 0) ≡ Some t) →
+    map (λ p. bind (standing a greatest_depth f p) (λ (t : Term). known a ks t)) ps ≡ map (known a ks) ts
+arguments_known a f ks [] [] l h = refl
+arguments_known a f ks [] (t ∷ ts) l h = absurd (omega arith)
+arguments_known a f ks (p ∷ ps) [] l h = absurd (omega arith)
+arguments_known a f ks (p ∷ ps) (t ∷ ts) l h =
+    ap₂ (λ x xs. x ∷ xs) (ap (λ (o : Option Term). bind o (known a ks)) (h zero t refl)) (arguments_known a f ks ps ts (omega arith) (λ k u e. h (suc k) u e))
+
+pub false_value : (o : Option ℕ) → option_eq nat_eq o (Some 0) ≡ is_false o
+false_value None = refl
+false_value (Some v) = refl
+
+pub clause_none : (a : Alg) (ks : Known) (c : Clause) → is_false (known a ks c.guard) ≡ true → clause_brings a ks c ≡ []
+clause_none a ks c e = rw (e, clause_brings) refl
+
+pub clause_all : (a : Alg) (ks : Known) (c : Clause) → is_false (known a ks c.guard) ≡ false → clause_brings a ks c ≡ map (occurrence_brings a ks) c.occurrences
+clause_all a ks c e = rw (e, clause_brings) refl
+
+pub equation_none : (a : Alg) (ks : Known) (e : Equation) → is_false (known a ks e.h) ≡ true → equation_brings a e (Some ks) ≡ []
+equation_none a ks x e = rw (e, equation_brings) refl
+
+pub equation_all : (a : Alg) (ks : Known) (e : Equation) → is_false (known a ks e.h) ≡ false → equation_brings a e (Some ks) ≡ flat (map (clause_brings a ks) e.clauses)
+equation_all a ks x e = rw (e, equation_brings) refl

@@ -1,5 +1,5 @@
 //! C: a parameter that has one and the same value wherever its equation is reached gives way to that value.
-ghost use Rattle.std.specs.Prelude.{◌≡◌, ℕ, ◌<◌, ◌≤◌, List, [], map, length, Some};
+ghost use Rattle.std.specs.Prelude.{◌≡◌, ℕ, ◌<◌, ◌≤◌, List, [], ◌∷◌, map, length, Some};
 ghost use Rattle.definitions.specs.Lists.{at, flat};
 ghost use Rattle.definitions.specs.Alg.{Alg};
 ghost use Rattle.definitions.specs.Systems.{Occurrence, Clause, Equation, System};
@@ -119,7 +119,16 @@ impl Known {
     }
 }
 
-// Joins what each of the occurrences brings to its target.
+// An instance more of the target is reached, of which these values are known.
+fn learn(knowledge: &mut [Known; 31], target: usize, values: Values)
+    requires { target < 31 }
+    ensures less { ranks knowledge.new ≤ ranks knowledge.old }
+    ensures brings { (ks : KnownValues) → Alike values ks → Brings ((target, ks) ∷ []) knowledge.old knowledge.new }
+{
+    knowledge[target] = knowledge[target].joined(values);
+}
+
+// Brings to each target what is known of the arguments.
 fn follow_occurrences<G: Algebra>(
     accepted: &Accepted<G>,
     env: &Environment,
@@ -131,8 +140,7 @@ fn follow_occurrences<G: Algebra>(
 {
     for occurrence in occurrences {
         let values = accepted.argument_values(env, occurrence);
-        let target = occurrence.target as usize;
-        knowledge[target] = knowledge[target].joined(values);
+        learn(knowledge, occurrence.target as usize, values);
     }
 }
 
