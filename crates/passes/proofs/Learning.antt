@@ -305,3 +305,7 @@ equation_none a ks x e = rw (e, equation_brings) refl
 
 pub equation_all : (a : Alg) (ks : Known) (e : Equation) → is_false (known a ks e.h) ≡ false → equation_brings a e (Some ks) ≡ flat (map (clause_brings a ks) e.clauses)
 equation_all a ks x e = rw (e, equation_brings) refl
+
+-- what is known at a place is what is known of the term there
+pub known_there : (a : Alg) (f : List ℕ) (ks : Known) (p : ℕ) (t : Term) (o : Option ℕ) (b : Bool) → standing a greatest_depth f p ≡ Some t → o ≡ bind (standing a greatest_depth f p) (known a ks) → b ≡ option_eq nat_eq o (Some 0) → is_false (known a ks t) ≡ b
+known_there a f ks p t o b s e h = sym (h ∙ false_value o ∙ ap is_false (e ∙ ap (λ (o : Option Term). bind o (known a ks)) s))
