@@ -1,5 +1,5 @@
 -- Values and tables of what is known, as the pass C keeps them.
-use Rattle.std.proofs.Common.{◌≡◌, ℕ, zero, suc, ◌+◌, ◌*◌, ◌<◌, ◌≤◌, Bool, true, false, eqb, nat_eq, ◌⊎◌, inl, inr, List, [], ◌∷◌, ◌++◌, map, length, get_or, set, take, drop, replicate, Some, None, Option, sym, refl, ap, ◌∙◌, subst, ap₂, add-one, arith, length-set}
+use Rattle.std.proofs.Common.{◌≡◌, ℕ, zero, suc, ◌+◌, ◌*◌, ◌<◌, ◌≤◌, Bool, true, false, eqb, nat_eq, ◌⊎◌, inl, inr, List, [], ◌∷◌, ◌++◌, map, length, get_or, set, take, drop, replicate, Some, None, Option, Ok, Err, Result, sym, refl, ap, ◌∙◌, subst, ap₂, add-one, arith, length-set}
 use lib.Pointwise.{pointwise}
 use Rattle.std.specs.Option.{option_eq}
 use Rattle.std.proofs.lemmas.Bool.{eqb-true, eq-eqb, and_parts}
@@ -17,7 +17,8 @@ use Rattle.system.specs.Walks.{Pairs}
 use Rattle.theorems.proofs.Listing.{every_left, every_right}
 use Rattle.passes.specs.declared.constants.Known.{Known as Kept}
 use Rattle.passes.specs.declared.constants.Known.TheVariants.{Unreached, Fresh, Followed}
-use Rattle.passes.specs.Learned.{Tells, Shows, kept_at, followed, values_known, rank, ranks, Joins, Brings, occurrence_brings}
+use Rattle.passes.specs.declared.plan.Missing.{Missing}
+use Rattle.passes.specs.Learned.{Follows, Tells, Shows, kept_at, followed, values_known, rank, ranks, Joins, Brings, occurrence_brings}
 use Rattle.passes.proofs.Along.{met, none_left}
 
 -- lists of one length that tell the same are the same
@@ -134,42 +135,38 @@ known_few (Some v ∷ xs) = omega (arith, known_few xs)
 -- joining to what is kept
 pub joins_first : (vs : List (Option ℕ)) → length vs ≡ 15 → Joins Unreached vs (Fresh vs)
 joins_first vs e = record {
-  tells = λ o ks t h. (ks, ap (λ z. Some (taken z ks)) t, h);
+  tells = λ o ks t h. (ks, ap (λ z. Some (taken z ks)) t, h, e);
   kept = λ c. absurd cc;
   less = omega (arith, known_few vs);
 }
 
-taken_alike : (old vs : List (Option ℕ)) (o : Option Known) (ks : Known) → (os : Known) × (o ≡ Some os) × Alike old os → Alike vs ks → (ls : Known) × (Some (taken o ks) ≡ Some ls) × Alike (agreed_all old vs) ls
-taken_alike old vs o ks t h = (agreed_all t.0 ks, ap (λ z. Some (taken z ks)) t.1, agreed_alike old vs t.0 ks t.2 h)
+module _ (old vs : List (Option ℕ)) (k : length old ≡ 15) (l : length vs ≡ 15) where
+  joined_long : length (agreed_all old vs) ≡ 15
+  joined_long = agreed_long old vs (k ∙ sym l) ∙ k
 
-pub joins_fresh : (old vs : List (Option ℕ)) → length old ≡ 15 → length vs ≡ 15 → Joins (Fresh old) vs (Fresh (agreed_all old vs))
-joins_fresh old vs k l = record {
-  tells = λ o ks t h. taken_alike old vs o ks t h;
-  kept = λ c. absurd cc;
-  less = go (shrinks old vs (k ∙ sym l));
-}
-  where
-    go : (agreed_all old vs ≡ old) ⊎ (values_known (agreed_all old vs) < values_known old) → 2 * values_known (agreed_all old vs) + 1 ≤ 2 * values_known old + 1
-    go (inl h) = omega (arith, ap values_known h)
-    go (inr h) = omega arith
+  taken_alike : (o : Option Known) (ks : Known) → Tells (Fresh old) o → Alike vs ks → Tells (Fresh (agreed_all old vs)) (Some (taken o ks))
+  taken_alike o ks t h = (agreed_all t.0 ks, ap (λ z. Some (taken z ks)) t.1, agreed_alike old vs t.0 ks t.2 h, joined_long)
 
-pub joins_same : (old vs : List (Option ℕ)) → agreed_all old vs ≡ old → Joins (Followed old) vs (Followed old)
-joins_same old vs e = record {
-  tells = λ o ks t h. let a = taken_alike old vs o ks t h in (a.0, a.1, subst (λ zs. Alike zs a.0) e a.2);
-  kept = λ c. refl;
-  less = omega arith;
-}
+  pub joins_fresh : Joins (Fresh old) vs (Fresh (agreed_all old vs))
+  joins_fresh = record { tells = λ o ks t h. taken_alike o ks t h; kept = λ c. absurd cc; less = go (shrinks old vs (k ∙ sym l)) }
+    where
+      go : (agreed_all old vs ≡ old) ⊎ (values_known (agreed_all old vs) < values_known old) → 2 * values_known (agreed_all old vs) + 1 ≤ 2 * values_known old + 1
+      go (inl h) = omega (arith, ap values_known h)
+      go (inr h) = omega arith
 
-pub joins_other : (old vs : List (Option ℕ)) → length old ≡ 15 → length vs ≡ 15 → (agreed_all old vs ≡ old → ⊥) → Joins (Followed old) vs (Fresh (agreed_all old vs))
-joins_other old vs k l n = record {
-  tells = λ o ks t h. taken_alike old vs o ks t h;
-  kept = λ c. absurd cc;
-  less = go (shrinks old vs (k ∙ sym l));
-}
-  where
-    go : (agreed_all old vs ≡ old) ⊎ (values_known (agreed_all old vs) < values_known old) → 2 * values_known (agreed_all old vs) + 1 ≤ 2 * values_known old
-    go (inl h) = absurd (n h)
-    go (inr h) = omega arith
+  pub joins_same : agreed_all old vs ≡ old → Joins (Followed old) vs (Followed old)
+  joins_same e = record {
+    tells = λ o ks t h. let a = taken_alike o ks t h in (a.0, a.1, subst (λ zs. Alike zs a.0) e a.2, k);
+    kept = λ c. refl;
+    less = omega arith;
+  }
+
+  pub joins_other : (agreed_all old vs ≡ old → ⊥) → Joins (Followed old) vs (Fresh (agreed_all old vs))
+  joins_other n = record { tells = λ o ks t h. taken_alike o ks t h; kept = λ c. absurd cc; less = go (shrinks old vs (k ∙ sym l)) }
+    where
+      go : (agreed_all old vs ≡ old) ⊎ (values_known (agreed_all old vs) < values_known old) → 2 * values_known (agreed_all old vs) + 1 ≤ 2 * values_known old
+      go (inl h) = absurd (n h)
+      go (inr h) = omega arith
 
 pub joins_as : (old new old' new' : Kept) (vs : List (Option ℕ)) → old ≡ old' → new ≡ new' → Joins old' vs new' → Joins old vs new
 joins_as old new old' new' vs e f j = subst (λ o. Joins o vs new) (sym e) (subst (λ n. Joins old' vs n) (sym f) j)
@@ -309,3 +306,6 @@ equation_all a ks x e = rw (e, equation_brings) refl
 -- what is known at a place is what is known of the term there
 pub known_there : (a : Alg) (f : List ℕ) (ks : Known) (p : ℕ) (t : Term) (o : Option ℕ) (b : Bool) → standing a greatest_depth f p ≡ Some t → o ≡ bind (standing a greatest_depth f p) (known a ks) → b ≡ option_eq nat_eq o (Some 0) → is_false (known a ks t) ≡ b
 known_there a f ks p t o b s e h = sym (h ∙ false_value o ∙ ap is_false (e ∙ ap (λ (o : Option Term). bind o (known a ks)) s))
+
+pub follows_same : {X : Type 0} {bs cs : List Brought} (T U : List Kept) (r : Result X Missing) → bs ≡ cs → Follows bs T U r → Follows cs T U r
+follows_same T U r e h = subst (λ (bs : List Brought). Follows bs T U r) e h

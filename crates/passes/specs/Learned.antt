@@ -19,8 +19,8 @@ use Rattle.passes.specs.declared.plan.Missing.{Missing}
 -- what is known of an equation, as it is kept
 abbrev pub Tells : Kept → Option Known → Type 0
 Tells Unreached o = o ≡ None
-Tells (Fresh vs) o = (ks : Known) × (o ≡ Some ks) × Alike vs ks
-Tells (Followed vs) o = (ks : Known) × (o ≡ Some ks) × Alike vs ks
+Tells (Fresh vs) o = (ks : Known) × (o ≡ Some ks) × Alike vs ks × (length vs ≡ 15)
+Tells (Followed vs) o = (ks : Known) × (o ≡ Some ks) × Alike vs ks × (length vs ≡ 15)
 
 abbrev pub kept_at : List Kept → ℕ → Kept
 kept_at T i = slice_index_or T i Unreached

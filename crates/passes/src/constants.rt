@@ -223,8 +223,9 @@ fn follow<G: Algebra>(
     ensures less { ranks knowledge.new < ranks knowledge.old }
     ensures learns { (s : System) → length accepted.now.file.now ≤ 65536 → Outlined (G.meaning accepted.now.alg.now) accepted.now.file.now s accepted.now.outline.now → Shaped s → Learnt (G.meaning accepted.now.alg.now) s knowledge.old → Learns (G.meaning accepted.now.alg.now) s knowledge.new result }
 {
-    let equation = accepted.outline.equations.as_slice().get(number).ok_or(Missing)?;
     knowledge[number] = Known::Followed(values);
+    let equations = accepted.outline.equations.as_slice();
+    let equation = equations.get(number).ok_or(Missing)?;
     follow_equation(accepted, equation.body, values, knowledge)
 }
 

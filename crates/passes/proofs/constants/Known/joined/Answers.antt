@@ -21,8 +21,10 @@ pub returns-then-eq : goal.returns-then-eq
 returns-then-eq c =
     let vs = c.args.values in
     let old = c.in-Followed.old in
+    let n : length vs ≡ 15 = search rules in
+    let m : length old ≡ 15 = search rules in
     let same = pointwise_same c.shared-less.result old (sym c.eq.ensures ∙ c.if-eq.true) in
-    joins_as c.args.self (Followed old) (Followed old) (Followed old) vs c.in-Followed.is refl (joins_same old vs (sym c.shared-less.ensures ∙ same))
+    joins_as c.args.self (Followed old) (Followed old) (Followed old) vs c.in-Followed.is refl (joins_same old vs m n (sym c.shared-less.ensures ∙ same))
 
 pub returns-else-eq : goal.returns-else-eq
 returns-else-eq c =
