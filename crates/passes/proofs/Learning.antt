@@ -2,7 +2,7 @@
 use Rattle.std.proofs.Common.{◌≡◌, ℕ, zero, suc, ◌+◌, ◌*◌, ◌<◌, ◌≤◌, Bool, true, false, eqb, nat_eq, ◌⊎◌, inl, inr, List, [], ◌∷◌, ◌++◌, map, length, get_or, set, take, drop, replicate, Some, None, Option, Ok, Err, Result, sym, refl, ap, ◌∙◌, subst, ap₂, add-one, arith, length-set}
 use lib.Pointwise.{pointwise}
 use Rattle.std.specs.Option.{option_eq}
-use Rattle.std.proofs.lemmas.Bool.{eqb-true, eq-eqb, and_parts}
+use Rattle.std.proofs.lemmas.Bool.{eqb-true, eq-eqb, and_parts, cases_lt}
 use Rattle.std.proofs.lemmas.List.{take_all, drop_all, append-nil}
 use Rattle.definitions.specs.Lists.{at, bind, flat}
 use Rattle.definitions.specs.Alg.{Alg}
@@ -18,7 +18,7 @@ use Rattle.theorems.proofs.Listing.{every_left, every_right}
 use Rattle.passes.specs.declared.constants.Known.{Known as Kept}
 use Rattle.passes.specs.declared.constants.Known.TheVariants.{Unreached, Fresh, Followed}
 use Rattle.passes.specs.declared.plan.Missing.{Missing}
-use Rattle.passes.specs.Learned.{Follows, Tells, Shows, kept_at, followed, values_known, rank, ranks, Joins, Brings, occurrence_brings}
+use Rattle.passes.specs.Learned.{Follows, Tells, Shows, kept_at, followed, fresh, values_known, rank, ranks, Joins, Brings, occurrence_brings}
 use Rattle.passes.proofs.Along.{met, none_left}
 
 -- lists of one length that tell the same are the same
@@ -190,7 +190,7 @@ module _ {X Y : Type 0} (f : X → Y) where
   filling_end xs es ys i l k h = h ∙ ap₂ (λ us vs. map f us ++ vs) (take_all i xs l) (drop_all i es k) ∙ append-nil (map f xs)
 
 -- one entry of a table changes
-shows_set : (T : List Kept) (K : Knowledge) (t : ℕ) (x : Kept) (ks : Known) → t < length T → t < length K → Tells x (Some (taken (get_or K t None) ks)) → Shows T K → Shows (set T t x) (learnt K t ks)
+pub shows_set : (T : List Kept) (K : Knowledge) (t : ℕ) (x : Kept) (ks : Known) → t < length T → t < length K → Tells x (Some (taken (get_or K t None) ks)) → Shows T K → Shows (set T t x) (learnt K t ks)
 shows_set [] K t x ks l m h s i = absurd (omega arith)
 shows_set (y ∷ T) [] t x ks l m h s i = absurd (omega arith)
 shows_set (y ∷ T) (k ∷ K) zero x ks l m h s zero = h
@@ -198,7 +198,7 @@ shows_set (y ∷ T) (k ∷ K) zero x ks l m h s (suc i) = s (suc i)
 shows_set (y ∷ T) (k ∷ K) (suc t) x ks l m h s zero = s 0
 shows_set (y ∷ T) (k ∷ K) (suc t) x ks l m h s (suc i) = shows_set T K t x ks (omega arith) (omega arith) h (λ j. s (suc j)) i
 
-kept_set : (T : List Kept) (t : ℕ) (x : Kept) → (followed x ≡ true → x ≡ kept_at T t) → (i : ℕ) → followed (kept_at (set T t x) i) ≡ true → kept_at (set T t x) i ≡ kept_at T i
+pub kept_set : (T : List Kept) (t : ℕ) (x : Kept) → (followed x ≡ true → x ≡ kept_at T t) → (i : ℕ) → followed (kept_at (set T t x) i) ≡ true → kept_at (set T t x) i ≡ kept_at T i
 kept_set [] t x h i f = refl
 kept_set (y ∷ T) zero x h zero f = h f
 kept_set (y ∷ T) zero x h (suc i) f = refl
@@ -309,3 +309,37 @@ known_there a f ks p t o b s e h = sym (h ∙ false_value o ∙ ap is_false (e �
 
 pub follows_same : {X : Type 0} {bs cs : List Brought} (T U : List Kept) (r : Result X Missing) → bs ≡ cs → Follows bs T U r → Follows cs T U r
 follows_same T U r e h = subst (λ (bs : List Brought). Follows bs T U r) e h
+
+-- entries that are still to be followed
+pub not_fresh : (k : Kept) → ((vs : List (Option ℕ)) → k ≡ Fresh vs → ⊥) → fresh k ≡ false
+not_fresh Unreached h = refl
+not_fresh (Fresh vs) h = absurd (h vs refl)
+not_fresh (Followed vs) h = refl
+
+pub none_next : (T : List Kept) (i : ℕ) → ((j : ℕ) → j < i → fresh (kept_at T j) ≡ false) → fresh (kept_at T i) ≡ false → (j : ℕ) → j < i + 1 → fresh (kept_at T j) ≡ false
+none_next T i h e j l = go (cases_lt j i)
+  where
+    go : (j < i) ⊎ (i ≤ j) → fresh (kept_at T j) ≡ false
+    go (inl k) = h j k
+    go (inr k) = let same : i ≡ j = omega arith in subst (λ n. fresh (kept_at T n) ≡ false) same e
+
+past : (T : List Kept) (j : ℕ) → length T ≤ j → kept_at T j ≡ Unreached
+past [] j l = refl
+past (x ∷ T) zero l = absurd (omega arith)
+past (x ∷ T) (suc j) l = past T j (omega arith)
+
+pub none_left_fresh : (T : List Kept) (i : ℕ) → length T ≤ i → ((j : ℕ) → j < i → fresh (kept_at T j) ≡ false) → (j : ℕ) → fresh (kept_at T j) ≡ false
+none_left_fresh T i l h j = go (cases_lt j i)
+  where
+    go : (j < i) ⊎ (i ≤ j) → fresh (kept_at T j) ≡ false
+    go (inl k) = h j k
+    go (inr k) = ap fresh (past T j (omega arith))
+
+pub kept_lt : (T : List Kept) (i : ℕ) (vs : List (Option ℕ)) → kept_at T i ≡ Fresh vs → i < length T
+kept_lt [] i vs e = absurd cc
+kept_lt (x ∷ T) zero vs e = omega arith
+kept_lt (x ∷ T) (suc i) vs e = omega (arith, kept_lt T i vs e)
+
+-- following lowers the rank
+pub followed_less : (T U : List Kept) (i : ℕ) (vs : List (Option ℕ)) → kept_at T i ≡ Fresh vs → ranks U ≤ ranks (set T i (Followed vs)) → ranks U < ranks T
+followed_less T U i vs e l = omega (arith, ranks_set T i (Followed vs) (kept_lt T i vs e), ap rank e)

@@ -13,3 +13,4 @@ pub mod PlanF
 pub mod PlanU
 pub mod Applying
 pub mod Learning
+pub mod Learns

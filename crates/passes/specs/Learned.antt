@@ -75,7 +75,7 @@ Follows bs old new (Err e) = ⊥
 -- the first that is still to be followed, with its values
 abbrev pub NextFresh : List Kept → Option (ℕ × List (Option ℕ)) → Type 0
 NextFresh T None = (i : ℕ) → fresh (kept_at T i) ≡ false
-NextFresh T (Some x) = at T x.0 ≡ Some (Fresh x.1)
+NextFresh T (Some x) = kept_at T x.0 ≡ Fresh x.1
 
 -- what becomes of an equation and of each of its parameters
 abbrev pub put : Option ℕ → ParameterChange

@@ -1,6 +1,6 @@
 //! C: a parameter that has one and the same value wherever its equation is reached gives way to that value.
 ghost use Rattle.std.specs.Prelude.{◌≡◌, ℕ, ◌<◌, ◌≤◌, List, [], ◌∷◌, map, length, Some};
-ghost use Rattle.definitions.specs.Lists.{at, flat};
+ghost use Rattle.definitions.specs.Lists.{flat};
 ghost use Rattle.definitions.specs.Alg.{Alg};
 ghost use Rattle.definitions.specs.Systems.{Occurrence, Clause, Equation, System};
 ghost use Rattle.definitions.specs.Reading.{next};
@@ -15,7 +15,7 @@ ghost use Rattle.system.specs.Whole.{kept_headers, Outlined};
 ghost use Rattle.passes.specs.declared.constants.Known.TheVariants.{Fresh};
 ghost use Rattle.passes.specs.Fronts.{Fronts};
 ghost use Rattle.passes.specs.Plans.{knowing, Planning};
-ghost use Rattle.passes.specs.Learned.{ranks, put, occurrence_brings, Joins, Brings, Follows, NextFresh, changing, Learnt, Learns, Least};
+ghost use Rattle.passes.specs.Learned.{kept_at, ranks, put, occurrence_brings, Joins, Brings, Follows, NextFresh, changing, Learnt, Learns, Least};
 
 use crate::Pass;
 use crate::plan::{Change, EquationChange, Missing, ParameterChange, Plan};
@@ -219,7 +219,7 @@ fn follow<G: Algebra>(
     values: Values,
     knowledge: &mut [Known; 31],
 ) -> Result<(), Missing>
-    requires { at knowledge.old number ≡ Some (Fresh values) }
+    requires { kept_at knowledge.old number ≡ Fresh values }
     ensures less { ranks knowledge.new < ranks knowledge.old }
     ensures learns { (s : System) → length accepted.now.file.now ≤ 65536 → Outlined (G.meaning accepted.now.alg.now) accepted.now.file.now s accepted.now.outline.now → Shaped s → Learnt (G.meaning accepted.now.alg.now) s knowledge.old → Learns (G.meaning accepted.now.alg.now) s knowledge.new result }
 {

@@ -15,7 +15,7 @@ use Rattle.theorems.proofs.Sounds.{sound_system}
 use Rattle.theorems.proofs.FitShapes.{fits_shaped}
 use Rattle.theorems.proofs.Listing.{some_same, every_at}
 use Rattle.theorems.proofs.Knows.{Under, same, unknown, Unders, Reached, not_yet, already, Belows, Met, All, to_unders, to_all, all_left, all_right, all_join, equation_down, learnt_under, learnt_all_lem, none_below, least}
-use Rattle.theorems.proofs.Stable.{Shape, brought_shaped, equation_shaped, learns, learns_all, met_up, none_shaped, from_all, stands}
+use Rattle.theorems.proofs.Stable.{Shape, OfShape, brought_shaped, equation_shaped, learns, learns_all, met_up, none_shaped, from_all, stands}
 
 -- the order by its test
 to_reached : (k l : Option Known) → reached_below k l ≡ true → Reached k l
@@ -161,3 +161,9 @@ module _ (a : Alg) (s : System) (h : Shaped s) where
 -- a system that is read is shaped
 pub read_shaped : (a : Alg) → Lawful a → (f : List ℕ) (s : System) (q : ℕ) → read_system a f 0 ≡ next s q → Shaped s
 read_shaped a law f s q e = fits_shaped a s ((sound_system f a law).run 0 (omega arith) s q e).fact.1
+
+-- what an equation of a system brings has the right shape
+pub brings_shaped : (a : Alg) (s : System) → Shaped s → (i : ℕ) (e : Equation) (k : Option Known) → at s.equations i ≡ Some e → OfShape (arities s.equations) (equation_brings a e k)
+brings_shaped a s h i e k p =
+    equation_shaped a (arities s.equations) e k
+    (every_at (λ (e : Equation). Every (λ (c : Clause). Every (λ (o : Occurrence). at (arities s.equations) o.target ≡ Some (length o.arguments)) c.occurrences) e.clauses) s.equations i e p h.1)

@@ -1,0 +1,173 @@
+-- Tables of what is known on the way to the least knowledge.
+use Rattle.std.proofs.Common.{◌≡◌, ℕ, zero, suc, ◌<◌, ◌≤◌, Bool, true, false, eqb, ◌⊎◌, inl, inr, List, [], ◌∷◌, ◌++◌, map, length, get_or, set, take, replicate, Some, None, Option, Ok, Err, Result, sym, refl, ap, ap₂, ◌∙◌, ◌-◌, subst, arith}
+use lib.ListN.{length-map}
+use Rattle.std.proofs.lemmas.Bool.{eqb-true, eqb-false}
+use Rattle.std.proofs.lemmas.List.{get_or-set_same, get_or-set_other}
+use Rattle.definitions.specs.Lists.{at}
+use Rattle.definitions.specs.Alg.{Alg}
+use Rattle.definitions.specs.Systems.{Equation, System}
+use Rattle.definitions.specs.Reading.{next}
+use Rattle.definitions.specs.ReadSystem.{Header, read_body}
+use Rattle.definitions.specs.Constants.{Known, Knowledge, Brought, taken, learnt, learnt_all, equation_brings, unreached}
+use Rattle.definitions.specs.Fits.{Every, header_of}
+use Rattle.theorems.specs.KnowledgeLaws.{arities, Shaped}
+use Rattle.theorems.proofs.Listing.{some_same, at_lt, at_mapped, at_map_some, every_map, get_or_some}
+use Rattle.theorems.proofs.Stable.{Shape, OfShape, learns_all}
+use Rattle.theorems.proofs.Following.{Learning, shape_long, shape_at, brings_shaped, learning_begin, learning_next, learning_end}
+use Rattle.terms.specs.Known.{Alike}
+use Rattle.rows.specs.Listed.{listed}
+use Rattle.system.specs.declared.outline.Equation.{Equation as Told}
+use Rattle.system.specs.declared.outline.Outline.{Outline}
+use Rattle.system.specs.Files.{kept_header}
+use Rattle.system.specs.Whole.{kept_headers, Outlined}
+use Rattle.passes.specs.declared.constants.Known.{Known as Kept}
+use Rattle.passes.specs.declared.constants.Known.TheVariants.{Unreached, Fresh, Followed}
+use Rattle.passes.specs.declared.plan.Missing.{Missing}
+use Rattle.passes.specs.Learned.{Tells, Shows, kept_at, followed, fresh, Brings, Follows, Learnt, Learns, Least}
+use Rattle.passes.proofs.Learning.{alike_same, kept_lt, shows_set, kept_set}
+
+-- a list's member
+pub at_told : {X : Type 0} (xs : List X) (i : ℕ) (x : X) → i < length xs → x ≡ get_or xs i x → at xs i ≡ Some x
+at_told [] i x l e = absurd (omega arith)
+at_told (y ∷ xs) zero x l e = ap Some (sym e)
+at_told (y ∷ xs) (suc i) x l e = at_told xs i x (omega arith) e
+
+-- an entry that is followed and has not changed tells the same as before
+same_told : {ns : List ℕ} {J K : Knowledge} (j : ℕ) (k : Kept) → followed k ≡ true → Shape ns J → Shape ns K → Tells k (get_or J j None) → Tells k (get_or K j None) → get_or K j None ≡ get_or J j None
+same_told j Unreached f y z s t = absurd cc
+same_told j (Fresh vs) f y z s t = absurd cc
+same_told j (Followed vs) f y z s t =
+    let long : length t.0 ≡ length s.0 = some_same (length t.0) (length s.0) (sym (shape_at z j t.0 t.1) ∙ shape_at y j s.0 s.1) in
+    t.1 ∙ ap Some (alike_same t.0 s.0 long (λ n. sym (t.2 n) ∙ s.2 n)) ∙ sym s.1
+
+-- a mark as followed tells the same
+shows_followed : (T : List Kept) (K : Knowledge) (i : ℕ) (vs : List (Option ℕ)) → kept_at T i ≡ Fresh vs → Shows T K → Shows (set T i (Followed vs)) K
+shows_followed T K i vs e s j = go (eqb j i) refl
+  where
+    go : (b : Bool) → eqb j i ≡ b → Tells (kept_at (set T i (Followed vs)) j) (get_or K j None)
+    go true k =
+        let same = eqb-true j i k in
+        let x : kept_at (set T i (Followed vs)) j ≡ Followed vs = ap (kept_at (set T i (Followed vs))) same ∙ get_or-set_same T i (Followed vs) Unreached (kept_lt T i vs e) in
+        subst (λ x. Tells x (get_or K j None)) (sym x) (subst (λ x. Tells x (get_or K j None)) (ap (kept_at T) same ∙ e) (s j))
+    go false k = subst (λ x. Tells x (get_or K j None)) (sym (get_or-set_other T i j (Followed vs) Unreached (eqb-false j i k))) (s j)
+
+module _ (a : Alg) (s : System) (h : Shaped s) where
+  abbrev ns : List ℕ
+  ns = arities s.equations
+
+  module _ (T : List Kept) (i : ℕ) (vs : List (Option ℕ)) (e : kept_at T i ≡ Fresh vs) where
+    -- an entry that is to be followed is an equation's
+    entry : (l : Learnt a s T) → Tells (Fresh vs) (get_or l.0 i None)
+    entry l = subst (λ k. Tells k (get_or l.0 i None)) e (l.1 i)
+
+    equation : Learnt a s T → (q : Equation) × (at s.equations i ≡ Some q)
+    equation l =
+        let t = entry l in
+        let m = at_map_some (λ (e : Equation). length e.sorts) s.equations i (length t.0) (shape_at l.2.shape i t.0 t.1) in
+        (m.0, m.1)
+
+    -- it is followed
+    followed_learnt : (U : List Kept) (l : Learnt a s T) (q : Equation) → at s.equations i ≡ Some q → Brings (equation_brings a q (Some (entry l).0)) (set T i (Followed vs)) U → Learnt a s U
+    followed_learnt U l q p b = (N, shows, learning_next a s h i q ks (λ j. followed (kept_at U j)) l.2 p t.1 keeps)
+      where
+        t : Tells (Fresh vs) (get_or l.0 i None)
+        t = entry l
+
+        ks : Known
+        ks = t.0
+
+        bs : List Brought
+        bs = equation_brings a q (Some ks)
+
+        N : Knowledge
+        N = learnt_all l.0 bs
+
+        shaped : OfShape ns bs
+        shaped = brings_shaped a s h i q (Some ks) p
+
+        before : Shows (set T i (Followed vs)) l.0
+        before = shows_followed T l.0 i vs e l.1
+
+        within : Every (λ (b : Brought). b.0 < length l.0) bs
+        within = every_map bs (λ b m. (let k = at_lt ns b.0 (length b.1) m in omega (arith, shape_long l.2.shape))) shaped
+
+        shows : Shows U N
+        shows = b.shows l.0 within before
+
+        keeps : (j : ℕ) → followed (kept_at U j) ≡ true → (get_or N j None ≡ get_or l.0 j None) × ((j ≡ i) ⊎ (followed (kept_at T j) ≡ true))
+        keeps j f = (same_told j (kept_at U j) f l.2.shape (learns_all bs l.2.shape shaped).shape (subst (λ k. Tells k (get_or l.0 j None)) (sym (b.kept j f)) (before j)) (shows j), go (eqb j i) refl)
+          where
+            go : (b : Bool) → eqb j i ≡ b → (j ≡ i) ⊎ (followed (kept_at T j) ≡ true)
+            go true k = inl (eqb-true j i k)
+            go false k = inr (ap followed (sym (b.kept j f ∙ get_or-set_other T i j (Followed vs) Unreached (eqb-false j i k))) ∙ f)
+
+  -- in an outlined file
+  module _ (f : List ℕ) (o : Outline) (out : Outlined a f s o) (T : List Kept) (i : ℕ) (vs : List (Option ℕ)) (e : kept_at T i ≡ Fresh vs) (l : Learnt a s T) where
+    pub follow_there : i < length (listed o.equations)
+    follow_there = let q = equation T i vs e l in let k = at_lt s.equations i q.0 q.1 in omega (arith, out.count)
+
+    pub follow_learns : {X : Type 0} (U : List Kept) (t : Told) (r : Result X Missing) → at (listed o.equations) i ≡ Some t →
+        ((ks : Known) (h : Header) (q : Equation) (p : ℕ) → Alike vs ks → read_body a (kept_headers o) h f t.body ≡ next q p → Follows (equation_brings a q (Some ks)) (set T i (Followed vs)) U r) →
+        Learns a s U r
+    follow_learns U t r at_t b = go r (b (entry T i vs e l).0 (header_of q.0) q.0 read.0 (entry T i vs e l).2 read.1)
+      where
+        q : (q : Equation) × (at s.equations i ≡ Some q)
+        q = equation T i vs e l
+
+        read : (p : ℕ) × (read_body a (kept_headers o) (header_of q.0) f t.body ≡ next q.0 p)
+        read = out.bodies i q.0 t q.1 at_t
+
+        go : {X : Type 0} (r : Result X Missing) → Follows (equation_brings a q.0 (Some (entry T i vs e l).0)) (set T i (Followed vs)) U r → Learns a s U r
+        go (Ok x) b = followed_learnt T i vs e U l q.0 q.1 b
+        go (Err x) b = absurd b
+
+  -- once nothing is left to be followed
+  pub learnt_least : (T : List Kept) → ((i : ℕ) → fresh (kept_at T i) ≡ false) → Learnt a s T → Least a s (Ok T)
+  learnt_least T n l = subst (Shows T) (learning_end a s h l.2 (λ i q p f. go i (kept_at T i) (n i) f (l.1 i))) l.1
+    where
+      go : (i : ℕ) (k : Kept) → fresh k ≡ false → followed k ≡ false → Tells k (get_or l.0 i None) → get_or l.0 i None ≡ None
+      go i Unreached u f t = t
+      go i (Fresh vs) u f t = absurd cc
+      go i (Followed vs) u f t = absurd cc
+
+  -- the start
+  none_reached : (es : List Equation) (i : ℕ) → get_or {A = Option Known} (map (λ _. None) es) i None ≡ None
+  none_reached [] i = refl
+  none_reached (q ∷ es) zero = refl
+  none_reached (q ∷ es) (suc i) = none_reached es i
+
+  none_kept : (n i : ℕ) → kept_at (replicate n Unreached) i ≡ Unreached
+  none_kept zero i = refl
+  none_kept (suc n) zero = refl
+  none_kept (suc n) (suc i) = none_kept n i
+
+  pub start_learnt : (vs : List (Option ℕ)) → Alike vs (map Some s.values) → length vs ≡ 15 → s.start < 31 → Learnt a s (set (replicate 31 Unreached) s.start (Fresh vs))
+  start_learnt vs alike long low = (learnt (unreached s) s.start (map Some s.values), shows, learning_begin a s h (λ i. followed (kept_at T i)) none)
+    where
+      T : List Kept
+      T = set (replicate 31 Unreached) s.start (Fresh vs)
+
+      shows : Shows T (learnt (unreached s) s.start (map Some s.values))
+      shows =
+          let k = at_lt ns s.start (length s.values) h.0 in
+          shows_set (replicate 31 Unreached) (unreached s) s.start (Fresh vs) (map Some s.values) (omega arith) (omega (arith, length-map s.equations (λ (e : Equation). length e.sorts), length-map {B = Option Known} s.equations (λ _. None)))
+          (map Some s.values, ap (λ o. Some (taken o (map Some s.values))) (none_reached s.equations s.start), alike, long)
+          (λ i. subst (λ k. Tells k (get_or (unreached s) i None)) (sym (none_kept 31 i)) (none_reached s.equations i))
+
+      none : (i : ℕ) → followed (kept_at T i) ≡ true → ⊥
+      none i f =
+          let e : kept_at T i ≡ Unreached = kept_set (replicate 31 Unreached) s.start (Fresh vs) (λ c. absurd cc) i f ∙ none_kept 31 i in
+          let bad : false ≡ true = ap followed (sym e) ∙ f in
+          absurd cc
+
+  front : (xs ys : List ℕ) → take (length xs) (xs ++ ys) ≡ xs
+  front [] ys = refl
+  front (x ∷ xs) ys = ap (λ z. x ∷ z) (front xs ys)
+
+  pub start_values : (f : List ℕ) (o : Outline) (t : Told) → Outlined a f s o → at (listed o.equations) o.start.equation ≡ Some t → take (length (listed t.header.sorts)) o.start.values ≡ s.values
+  start_values f o t out p =
+      let here = sym (ap (λ hs. at hs o.start.equation) out.headers) ∙ at_mapped (λ (t : Told). kept_header t.header) (listed o.equations) o.start.equation t p in
+      let m = at_map_some header_of s.equations o.start.equation (kept_header t.header) here in
+      let count : length m.0.sorts ≡ length s.values = some_same (length m.0.sorts) (length s.values) (sym (at_mapped (λ (e : Equation). length e.sorts) s.equations o.start.equation m.0 m.1) ∙ ap (at ns) out.start ∙ h.0) in
+      let long : length (listed t.header.sorts) ≡ length s.values = ap (λ (h : Header). length h.sorts) (sym m.2) ∙ count in
+      ap₂ take long out.values ∙ front s.values (replicate (15 - length s.values) 0)
