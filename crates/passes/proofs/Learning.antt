@@ -1,12 +1,12 @@
 -- Values and tables of what is known, as the pass C keeps them.
-use Rattle.std.proofs.Common.{◌≡◌, ℕ, zero, suc, ◌+◌, ◌*◌, ◌<◌, ◌≤◌, Bool, true, false, eqb, nat_eq, ◌⊎◌, inl, inr, List, [], ◌∷◌, ◌++◌, map, length, get_or, set, take, drop, replicate, Some, None, Option, Ok, Err, Result, sym, refl, ap, ◌∙◌, subst, ap₂, add-one, arith, length-set}
+use Rattle.std.proofs.Common.{◌≡◌, ℕ, zero, suc, ◌+◌, ◌*◌, ◌<◌, ◌≤◌, Bool, true, false, eqb, nat_eq, ◌⊎◌, inl, inr, List, [], ◌∷◌, ◌++◌, map, length, get_or, set, take, drop, replicate, Some, None, Option, Result, sym, refl, ap, ◌∙◌, subst, ap₂, add-one, arith, length-set}
 use lib.Pointwise.{pointwise}
 use Rattle.std.specs.Option.{option_eq}
 use Rattle.std.proofs.lemmas.Bool.{eqb-true, eq-eqb, and_parts, cases_lt}
 use Rattle.std.proofs.lemmas.List.{take_all, drop_all, append-nil}
 use Rattle.definitions.specs.Lists.{at, bind, flat}
 use Rattle.definitions.specs.Alg.{Alg}
-use Rattle.definitions.specs.Systems.{Term, Occurrence, Clause, Equation}
+use Rattle.definitions.specs.Systems.{Term, Clause, Equation}
 use Rattle.definitions.specs.ReadSystem.{greatest_depth}
 use Rattle.definitions.specs.Values.{known, is_false}
 use Rattle.definitions.specs.Constants.{Known, Knowledge, Brought, agreed, agreed_all, taken, learnt, learnt_all, clause_brings, equation_brings}

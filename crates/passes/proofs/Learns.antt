@@ -2,28 +2,33 @@
 use Rattle.std.proofs.Common.{◌≡◌, ℕ, zero, suc, ◌<◌, ◌≤◌, Bool, true, false, eqb, ◌⊎◌, inl, inr, List, [], ◌∷◌, ◌++◌, map, length, get_or, set, take, replicate, Some, None, Option, Ok, Err, Result, sym, refl, ap, ap₂, ◌∙◌, ◌-◌, subst, arith}
 use lib.ListN.{length-map}
 use Rattle.std.proofs.lemmas.Bool.{eqb-true, eqb-false}
-use Rattle.std.proofs.lemmas.List.{get_or-set_same, get_or-set_other}
+use Rattle.std.proofs.lemmas.List.{get_or-set_same, get_or-set_other, get_or_default}
 use Rattle.definitions.specs.Lists.{at}
 use Rattle.definitions.specs.Alg.{Alg}
 use Rattle.definitions.specs.Systems.{Equation, System}
 use Rattle.definitions.specs.Reading.{next}
 use Rattle.definitions.specs.ReadSystem.{Header, read_body}
-use Rattle.definitions.specs.Constants.{Known, Knowledge, Brought, taken, learnt, learnt_all, equation_brings, unreached}
+use Rattle.definitions.specs.Constants.{Known, Knowledge, Brought, taken, learnt, learnt_all, equation_brings, unreached, least_knowledge}
 use Rattle.definitions.specs.Fits.{Every, header_of}
 use Rattle.theorems.specs.KnowledgeLaws.{arities, Shaped}
-use Rattle.theorems.proofs.Listing.{some_same, at_lt, at_mapped, at_map_some, every_map, get_or_some}
+use Rattle.theorems.proofs.Listing.{some_same, at_lt, at_mapped, at_map_some, every_map}
 use Rattle.theorems.proofs.Stable.{Shape, OfShape, learns_all}
-use Rattle.theorems.proofs.Following.{Learning, shape_long, shape_at, brings_shaped, learning_begin, learning_next, learning_end}
+use Rattle.theorems.proofs.Following.{shape_long, shape_at, brings_shaped, learning_begin, learning_next, learning_end}
 use Rattle.terms.specs.Known.{Alike}
-use Rattle.rows.specs.Listed.{listed}
+use Rattle.rows.specs.Listed.{listed, listed_within}
 use Rattle.system.specs.declared.outline.Equation.{Equation as Told}
 use Rattle.system.specs.declared.outline.Outline.{Outline}
 use Rattle.system.specs.Files.{kept_header}
 use Rattle.system.specs.Whole.{kept_headers, Outlined}
 use Rattle.passes.specs.declared.constants.Known.{Known as Kept}
 use Rattle.passes.specs.declared.constants.Known.TheVariants.{Unreached, Fresh, Followed}
+use Rattle.passes.specs.declared.plan.ParameterChange.TheVariants.{Stays, Goes, Becomes}
+use Rattle.passes.specs.declared.plan.EquationChange.{EquationChange}
+use Rattle.passes.specs.declared.plan.EquationChange.TheVariants as equation
+use Rattle.passes.specs.declared.plan.Plan.{Plan}
+use Rattle.passes.specs.Plans.{Changes, becomes, knowing}
 use Rattle.passes.specs.declared.plan.Missing.{Missing}
-use Rattle.passes.specs.Learned.{Tells, Shows, kept_at, followed, fresh, Brings, Follows, Learnt, Learns, Least}
+use Rattle.passes.specs.Learned.{Tells, Shows, kept_at, followed, fresh, Brings, Follows, put, changing, Learnt, Learns, Least}
 use Rattle.passes.proofs.Learning.{alike_same, kept_lt, shows_set, kept_set}
 
 -- a list's member
@@ -60,8 +65,8 @@ module _ (a : Alg) (s : System) (h : Shaped s) where
     entry : (l : Learnt a s T) → Tells (Fresh vs) (get_or l.0 i None)
     entry l = subst (λ k. Tells k (get_or l.0 i None)) e (l.1 i)
 
-    equation : Learnt a s T → (q : Equation) × (at s.equations i ≡ Some q)
-    equation l =
+    equation_there : Learnt a s T → (q : Equation) × (at s.equations i ≡ Some q)
+    equation_there l =
         let t = entry l in
         let m = at_map_some (λ (e : Equation). length e.sorts) s.equations i (length t.0) (shape_at l.2.shape i t.0 t.1) in
         (m.0, m.1)
@@ -104,7 +109,7 @@ module _ (a : Alg) (s : System) (h : Shaped s) where
   -- in an outlined file
   module _ (f : List ℕ) (o : Outline) (out : Outlined a f s o) (T : List Kept) (i : ℕ) (vs : List (Option ℕ)) (e : kept_at T i ≡ Fresh vs) (l : Learnt a s T) where
     pub follow_there : i < length (listed o.equations)
-    follow_there = let q = equation T i vs e l in let k = at_lt s.equations i q.0 q.1 in omega (arith, out.count)
+    follow_there = let q = equation_there T i vs e l in let k = at_lt s.equations i q.0 q.1 in omega (arith, out.count)
 
     pub follow_learns : {X : Type 0} (U : List Kept) (t : Told) (r : Result X Missing) → at (listed o.equations) i ≡ Some t →
         ((ks : Known) (h : Header) (q : Equation) (p : ℕ) → Alike vs ks → read_body a (kept_headers o) h f t.body ≡ next q p → Follows (equation_brings a q (Some ks)) (set T i (Followed vs)) U r) →
@@ -112,7 +117,7 @@ module _ (a : Alg) (s : System) (h : Shaped s) where
     follow_learns U t r at_t b = go r (b (entry T i vs e l).0 (header_of q.0) q.0 read.0 (entry T i vs e l).2 read.1)
       where
         q : (q : Equation) × (at s.equations i ≡ Some q)
-        q = equation T i vs e l
+        q = equation_there T i vs e l
 
         read : (p : ℕ) × (read_body a (kept_headers o) (header_of q.0) f t.body ≡ next q.0 p)
         read = out.bodies i q.0 t q.1 at_t
@@ -171,3 +176,43 @@ module _ (a : Alg) (s : System) (h : Shaped s) where
       let count : length m.0.sorts ≡ length s.values = some_same (length m.0.sorts) (length s.values) (sym (at_mapped (λ (e : Equation). length e.sorts) s.equations o.start.equation m.0 m.1) ∙ ap (at ns) out.start ∙ h.0) in
       let long : length (listed t.header.sorts) ≡ length s.values = ap (λ (h : Header). length h.sorts) (sym m.2) ∙ count in
       ap₂ take long out.values ∙ front s.values (replicate (15 - length s.values) 0)
+
+-- the plan by the least knowledge
+all_goes : (n i : ℕ) → i < n → at (replicate n Goes) i ≡ Some Goes
+all_goes zero i l = absurd (omega arith)
+all_goes (suc n) zero l = refl
+all_goes (suc n) (suc i) l = all_goes n i (omega arith)
+
+put_becomes : (o : Option ℕ) → put o ≡ elim o [ None ↦ Stays | Some v ↦ Becomes v ]
+put_becomes None = refl
+put_becomes (Some v) = refl
+
+abbrev becoming : Option Known → EquationChange
+becoming o = elim o [ None ↦ equation.Bare | Some ks ↦ equation.Stays ]
+
+put_there : (vs ks : List (Option ℕ)) → Alike vs ks → length vs ≡ 15 → (n : ℕ) → n < 15 → at (map put vs) n ≡ Some (becomes (Some ks) n)
+put_there vs ks h long n l =
+    at_mapped put vs n (get_or vs n None) (at_told vs n (get_or vs n None) (omega arith) (get_or_default vs n None (get_or vs n None) (omega arith))) ∙ ap Some (ap put (h n) ∙ put_becomes (get_or ks n None))
+
+changes_told : (e : Equation) (k : Kept) (o : Option Known) → length e.sorts ≤ 15 → Tells k o → Changes e (becoming o) (becomes o) (changing k)
+changes_told e Unreached o few t = subst (λ o. Changes e (becoming o) (becomes o) (changing Unreached)) (sym t) (record { equation = refl; parameters = λ n l. all_goes 15 n (omega arith) })
+changes_told e (Fresh vs) o few t = subst (λ o. Changes e (becoming o) (becomes o) (changing (Fresh vs))) (sym t.1) (record { equation = refl; parameters = λ n l. put_there vs t.0 t.2 t.3 n (omega arith) })
+changes_told e (Followed vs) o few t = subst (λ o. Changes e (becoming o) (becomes o) (changing (Followed vs))) (sym t.1) (record { equation = refl; parameters = λ n l. put_there vs t.0 t.2 t.3 n (omega arith) })
+
+kept_there : (T : List Kept) (i : ℕ) → i < length T → at T i ≡ Some (kept_at T i)
+kept_there [] i l = absurd (omega arith)
+kept_there (k ∷ T) zero l = refl
+kept_there (k ∷ T) (suc i) l = kept_there T i (omega arith)
+
+pub plan_knowing : (a : Alg) (s : System) (f : List ℕ) (o : Outline) → Outlined a f s o → (T : List Kept) (P : Plan) → length T ≡ 31 → P.fold ≡ false → P.equations ≡ map changing T → Shows T (least_knowledge a s) → knowing a s P
+plan_knowing a s f o out T P long folds is shows = record {
+  fold = folds;
+  each_equation = λ i e p.
+      let m = at_map_some (λ (t : Told). kept_header t.header) (listed o.equations) i (header_of e) (ap (λ hs. at hs i) out.headers ∙ at_mapped header_of s.equations i e p) in
+      let few : length e.sorts ≤ 15 = subst (λ (h : Header). length h.sorts ≤ 15) m.2 (listed_within m.0.header.sorts) in
+      let l = at_lt (listed o.equations) i m.0 m.1 in
+      let w = listed_within o.equations in (
+        changing (kept_at T i),
+        (ap (λ cs. at cs i) is ∙ at_mapped changing T i (kept_at T i) (kept_there T i (omega arith)), changes_told e (kept_at T i) (get_or (least_knowledge a s) i None) few (shows i)),
+      );
+}

@@ -1,6 +1,6 @@
 -- What the pass C keeps of each equation, and what is brought to it.
 use Rattle.std.specs.Prelude.{◌≡◌, ℕ, suc, ◌+◌, ◌*◌, ◌<◌, ◌≤◌, Bool, true, false, List, [], ◌∷◌, map, length, replicate, Some, None, Option, Ok, Err, Result, slice_index_or}
-use Rattle.definitions.specs.Lists.{at, sum}
+use Rattle.definitions.specs.Lists.{sum}
 use Rattle.definitions.specs.Fits.{Every}
 use Rattle.definitions.specs.Alg.{Alg}
 use Rattle.definitions.specs.Systems.{Occurrence, System}
@@ -10,6 +10,7 @@ use Rattle.theorems.proofs.Following.{Learning}
 use Rattle.terms.specs.Known.{Alike}
 use Rattle.passes.specs.declared.constants.Known.{Known as Kept}
 use Rattle.passes.specs.declared.constants.Known.TheVariants.{Unreached, Fresh, Followed}
+use Rattle.passes.specs.declared.constants.Pending.{Pending}
 use Rattle.passes.specs.declared.plan.ParameterChange.{ParameterChange}
 use Rattle.passes.specs.declared.plan.ParameterChange.TheVariants.{Stays, Goes, Becomes}
 use Rattle.passes.specs.declared.plan.EquationChange.TheVariants as equation
@@ -72,10 +73,10 @@ abbrev pub Follows : {X : Type 0} → List Brought → List Kept → List Kept �
 Follows bs old new (Ok x) = Brings bs old new
 Follows bs old new (Err e) = ⊥
 
--- the first that is still to be followed, with its values
-abbrev pub NextFresh : List Kept → Option (ℕ × List (Option ℕ)) → Type 0
-NextFresh T None = (i : ℕ) → fresh (kept_at T i) ≡ false
-NextFresh T (Some x) = kept_at T x.0 ≡ Fresh x.1
+-- an equation that is still to be followed, with its values
+abbrev pub NextPending : List Kept → Option Pending → Type 0
+NextPending T None = (i : ℕ) → fresh (kept_at T i) ≡ false
+NextPending T (Some x) = kept_at T x.number ≡ Fresh x.values
 
 -- what becomes of an equation and of each of its parameters
 abbrev pub put : Option ℕ → ParameterChange

@@ -15,7 +15,7 @@ ghost use Rattle.system.specs.Whole.{kept_headers, Outlined};
 ghost use Rattle.passes.specs.declared.constants.Known.TheVariants.{Fresh};
 ghost use Rattle.passes.specs.Fronts.{Fronts};
 ghost use Rattle.passes.specs.Plans.{knowing, Planning};
-ghost use Rattle.passes.specs.Learned.{kept_at, ranks, put, occurrence_brings, Joins, Brings, Follows, NextFresh, changing, Learnt, Learns, Least};
+ghost use Rattle.passes.specs.Learned.{kept_at, ranks, put, occurrence_brings, Joins, Brings, Follows, NextPending, changing, Learnt, Learns, Least};
 
 use crate::Pass;
 use crate::plan::{Change, EquationChange, Missing, ParameterChange, Plan};
@@ -200,29 +200,38 @@ fn follow_equation<G: Algebra>(
     follow_clauses(accepted, &env, clauses.as_slice(), knowledge)
 }
 
-// The number and the values of the first equation that is still to be followed.
-fn next_fresh(knowledge: &[Known; 31]) -> Option<(usize, Values)>
-    ensures { NextFresh knowledge.now result }
+// An equation that is still to be followed: its number, and what is known of its parameters.
+#[derive(Clone, Copy)]
+struct Pending {
+    number: usize,
+    values: [Option<u8>; 15],
+}
+
+// The first equation that is still to be followed.
+fn next_pending(knowledge: &[Known; 31]) -> Option<Pending>
+    ensures { NextPending knowledge.now result }
 {
-    for (i, known) in knowledge.iter().enumerate() {
+    for (number, known) in knowledge.iter().enumerate() {
         if let Known::Fresh(values) = known {
-            return Some((i, *values));
+            let values = *values;
+            return Some(Pending { number, values });
         }
     }
     None
 }
 
-// Follows the equation with this number, of which these values are known.
+// Follows the equation.
 fn follow<G: Algebra>(
     accepted: &Accepted<G>,
-    number: usize,
-    values: Values,
+    pending: &Pending,
     knowledge: &mut [Known; 31],
 ) -> Result<(), Missing>
-    requires { kept_at knowledge.old number ≡ Fresh values }
+    requires { kept_at knowledge.old pending.now.number ≡ Fresh pending.now.values }
     ensures less { ranks knowledge.new < ranks knowledge.old }
     ensures learns { (s : System) → length accepted.now.file.now ≤ 65536 → Outlined (G.meaning accepted.now.alg.now) accepted.now.file.now s accepted.now.outline.now → Shaped s → Learnt (G.meaning accepted.now.alg.now) s knowledge.old → Learns (G.meaning accepted.now.alg.now) s knowledge.new result }
 {
+    let number = pending.number;
+    let values = pending.values;
     knowledge[number] = Known::Followed(values);
     let equations = accepted.outline.equations.as_slice();
     let equation = equations.get(number).ok_or(Missing)?;
@@ -247,8 +256,8 @@ fn least_knowledge<G: Algebra>(accepted: &Accepted<G>) -> Result<[Known; 31], Mi
     ensures { (s : System) → length accepted.now.file.now ≤ 65536 → Outlined (G.meaning accepted.now.alg.now) accepted.now.file.now s accepted.now.outline.now → Shaped s → Least (G.meaning accepted.now.alg.now) s result }
 {
     let mut knowledge = know_start(accepted.outline);
-    while let Some((number, values)) = next_fresh(&knowledge) {
-        follow(accepted, number, values, &mut knowledge)?;
+    while let Some(pending) = next_pending(&knowledge) {
+        follow(accepted, &pending, &mut knowledge)?;
     }
     Ok(knowledge)
 }

@@ -1,4 +1,4 @@
-use Rattle.std.proofs.Common.{replicate, None, refl, ap, arith}
+use Rattle.std.proofs.Common.{replicate, ap, arith}
 use Rattle.passes.specs.Plans.{change_none}
 use Rattle.passes.specs.Learned.{changing}
 use Rattle.passes.specs.declared.constants.Known.TheVariants.{Unreached}

@@ -1,4 +1,4 @@
-use Rattle.std.proofs.Common.{◌≡◌, ℕ, List, [], Option, sym, ap, ◌∙◌, subst}
+use Rattle.std.proofs.Common.{ℕ, List, [], Option, sym, ◌∙◌, subst}
 use Rattle.definitions.specs.Systems.{Occurrence}
 use Rattle.rows.specs.declared.row.Row.{Row}
 use Rattle.rows.specs.Listed.{listed}

@@ -1,5 +1,4 @@
-use Rattle.std.proofs.Common.{◌≡◌, ℕ, ◌<◌, List, drop, length, Result, sym, ap, subst, arith, drop_of_length-le}
-use Rattle.std.proofs.lemmas.Result.{err_from_is_err_and}
+use Rattle.std.proofs.Common.{◌≡◌, ℕ, drop, length, ap, arith, drop_of_length-le}
 use Rattle.definitions.specs.Systems.{Clause}
 use Rattle.definitions.specs.Constants.{clause_brings}
 use Rattle.system.specs.declared.places.ClauseAt.{ClauseAt}

@@ -1,10 +1,10 @@
-use Rattle.std.proofs.Common.{◌≡◌, ℕ, ◌<◌, List, [], ◌∷◌, drop, map, length, Option, sym, ap, ◌∙◌, subst, arith, drop_of_length-le}
+use Rattle.std.proofs.Common.{◌≡◌, ℕ, [], ◌∷◌, drop, length, ap, subst, arith, drop_of_length-le}
 use Rattle.definitions.specs.Systems.{Occurrence}
 use Rattle.terms.specs.Known.{Alike}
 use Rattle.rows.specs.Listed.{listed}
 use Rattle.system.specs.declared.places.OccurrenceAt.{OccurrenceAt}
 use Rattle.system.specs.Walks.{OccurrenceOf}
-use Rattle.passes.specs.Learned.{Brings, occurrence_brings}
+use Rattle.passes.specs.Learned.{occurrence_brings}
 use Rattle.passes.proofs.Along.{item}
 use Rattle.passes.proofs.Learning.{bringing_first, bringing_next, bringing_end, brings_same, one_each, arguments_known}
 use Rattle.passes.proofs.constants.follow_occurrences.Goals as goal
@@ -34,8 +34,8 @@ loop-occurrence-preserved g c = (
       let vs = c.argument_values-values.result in
       bringing_next R (λ o. occurrence_brings a ks o ∷ []) x c.learn.new.knowledge e (c.loop-occurrence.invariant.1 ks os p v t)
       (λ o h.
-          let known = subst (Alike vs) (arguments_known a f ks (listed x.arguments) o.arguments h.1.count h.1.arguments) (c.argument_values-values.ensures ks [] p v) in
-          brings_same (ap (λ (j : ℕ). (j, (occurrence_brings a ks o).1) ∷ []) h.1.target) (c.learn.ensures.brings (occurrence_brings a ks o).1 known)),
+      let known = subst (Alike vs) (arguments_known a f ks (listed x.arguments) o.arguments h.1.count h.1.arguments) (c.argument_values-values.ensures ks [] p v) in
+      brings_same (ap (λ (j : ℕ). (j, (occurrence_brings a ks o).1) ∷ []) h.1.target) (c.learn.ensures.brings (occurrence_brings a ks o).1 known)),
 )
 
 pub returns-clause-less : goal.returns-clause-less

@@ -1,7 +1,7 @@
-use Rattle.std.proofs.Common.{◌≡◌, ℕ, ◌<◌, ◌≤◌, List, map, length, get_or, set, take, replicate, Some, sym, ap, ◌∙◌, subst, arith, rules}
+use Rattle.std.proofs.Common.{◌≡◌, ℕ, ◌<◌, List, map, length, set, take, replicate, Some, sym, ap, ◌∙◌, subst, arith, rules}
 use Rattle.definitions.specs.Lists.{at}
 use Rattle.terms.specs.Known.{Alike}
-use Rattle.rows.specs.Listed.{listed, listed_within}
+use Rattle.rows.specs.Listed.{listed_within}
 use Rattle.system.specs.declared.outline.Equation.{Equation}
 use Rattle.passes.specs.declared.constants.Known.TheVariants.{Unreached, Fresh}
 use Rattle.passes.specs.Learned.{Learnt}
