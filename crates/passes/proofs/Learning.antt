@@ -13,7 +13,7 @@ use Rattle.definitions.specs.Constants.{Known, Knowledge, Brought, agreed, agree
 use Rattle.definitions.specs.Fits.{Every}
 use Rattle.terms.specs.Known.{Alike}
 use Rattle.terms.specs.Shapes.{standing}
-use Rattle.system.specs.Walks.{Pairs}
+use Rattle.system.specs.Walks.{Found, Pairs}
 use Rattle.theorems.proofs.Listing.{every_left, every_right}
 use Rattle.passes.specs.declared.constants.Known.{Known as Kept}
 use Rattle.passes.specs.declared.constants.Known.TheVariants.{Unreached, Fresh, Followed}
@@ -277,6 +277,13 @@ module _ {X Y : Type 0} (R : X → Y → Type 0) (f : Y → List Brought) where
 pub one_each : {Y : Type 0} (f : Y → Brought) (ys : List Y) → flat (map (λ y. f y ∷ []) ys) ≡ map f ys
 one_each f [] = refl
 one_each f (y ∷ ys) = ap (λ zs. f y ∷ zs) (one_each f ys)
+
+-- what is found is there
+pub there : {X : Type 0} (P : X → Type 0) (o : Option X) (x : X) → o ≡ Some x → Found o P → P x
+there P o x e h = subst (λ (o : Option _). Found o P) e h
+
+pub not_missing : {X : Type 0} (P : X → Type 0) (o : Option X) → o ≡ None → Found o P → ⊥
+not_missing P o e h = subst (λ (o : Option _). Found o P) e h
 
 -- the known values of arguments that are read
 pub arguments_known : (a : Alg) (f : List ℕ) (ks : Known) (ps : List ℕ) (ts : List Term) → length ps ≡ length ts → ((k : ℕ) (t : Term) → at ts k ≡ Some t → standing a greatest_depth f (get_or ps k 0) ≡ Some t) →

@@ -1,6 +1,8 @@
 -- Tables of what is known on the way to the least knowledge.
 use Rattle.std.proofs.Common.{◌≡◌, ℕ, zero, suc, ◌<◌, ◌≤◌, Bool, true, false, eqb, ◌⊎◌, inl, inr, List, [], ◌∷◌, ◌++◌, map, length, get_or, set, take, replicate, Some, None, Option, Ok, Err, Result, sym, refl, ap, ap₂, ◌∙◌, ◌-◌, subst, arith}
+use mathlib.Core.Bool.{false≢true}
 use lib.ListN.{length-map}
+use Rattle.std.specs.Option.{IsSome, IfSome}
 use Rattle.std.proofs.lemmas.Bool.{eqb-true, eqb-false}
 use Rattle.std.proofs.lemmas.List.{get_or-set_same, get_or-set_other, get_or_default}
 use Rattle.definitions.specs.Lists.{at}
@@ -12,8 +14,9 @@ use Rattle.definitions.specs.Constants.{Known, Knowledge, Brought, taken, learnt
 use Rattle.definitions.specs.Fits.{Every, header_of}
 use Rattle.theorems.specs.KnowledgeLaws.{arities, Shaped}
 use Rattle.theorems.proofs.Listing.{some_same, at_lt, at_mapped, at_map_some, every_map}
-use Rattle.theorems.proofs.Stable.{Shape, OfShape, learns_all}
-use Rattle.theorems.proofs.Following.{shape_long, shape_at, brings_shaped, learning_begin, learning_next, learning_end}
+use Rattle.theorems.proofs.Knows.{from_belows, to_all}
+use Rattle.theorems.proofs.Stable.{Shape, OfShape, learns_all, from_all}
+use Rattle.theorems.proofs.Following.{Learning, to_belows, shape_long, shape_at, shape_of, brings_shaped, learning_begin, learning_next, learning_end}
 use Rattle.terms.specs.Known.{Alike}
 use Rattle.rows.specs.Listed.{listed, listed_within}
 use Rattle.system.specs.declared.outline.Equation.{Equation as Told}
@@ -37,6 +40,13 @@ at_told [] i x l e = absurd (omega arith)
 at_told (y ∷ xs) zero x l e = ap Some (sym e)
 at_told (y ∷ xs) (suc i) x l e = at_told xs i x (omega arith) e
 
+-- what is got is there
+pub got : {X : Type 0} (P : X → Type 0) (o : Option X) (x : X) → o ≡ Some x → IfSome o P → P x
+got P o x e h = subst (λ (o : Option _). IfSome o P) e h
+
+pub not_got : {X : Type 0} (o : Option X) → o ≡ None → IsSome o → ⊥
+not_got o e h = false≢true (subst (λ (o : Option _). IsSome o) e h)
+
 -- an entry that is followed and has not changed tells the same as before
 same_told : {ns : List ℕ} {J K : Knowledge} (j : ℕ) (k : Kept) → followed k ≡ true → Shape ns J → Shape ns K → Tells k (get_or J j None) → Tells k (get_or K j None) → get_or K j None ≡ get_or J j None
 same_told j Unreached f y z s t = absurd cc
@@ -56,23 +66,56 @@ shows_followed T K i vs e s j = go (eqb j i) refl
         subst (λ x. Tells x (get_or K j None)) (sym x) (subst (λ x. Tells x (get_or K j None)) (ap (kept_at T) same ∙ e) (s j))
     go false k = subst (λ x. Tells x (get_or K j None)) (sym (get_or-set_other T i j (Followed vs) Unreached (eqb-false j i k))) (s j)
 
+-- knowledge on the way, by the words of the theory
+abbrev Inside : Alg → System → List Kept → Type 0
+Inside a s T = (K : Knowledge) × Shows T K × Learning a s (λ i. followed (kept_at T i)) K
+
+inside : (a : Alg) (s : System) (T : List Kept) → Learnt a s T → Inside a s T
+inside a s T l =
+    let K = l.0 in
+    let u = l.2 in (
+      K,
+      l.1,
+      record {
+        shape = shape_of (arities s.equations) K (u.long ∙ sym (length-map s.equations (λ (e : Equation). length e.sorts))) u.arity;
+        least = to_belows K (least_knowledge a s) u.least;
+        start = (to_all K ((s.start, map Some s.values) ∷ []) u.start).0;
+        followed = λ i e p d. to_all K (equation_brings a e (get_or K i None)) (u.followed i e p d);
+      },
+    )
+
+outside : (a : Alg) (s : System) (T : List Kept) → Inside a s T → Learnt a s T
+outside a s T l =
+    let K = l.0 in
+    let u = l.2 in (
+      K,
+      l.1,
+      record {
+        long = shape_long u.shape ∙ length-map s.equations (λ (e : Equation). length e.sorts);
+        arity = λ i ks. shape_at u.shape i ks;
+        least = from_belows u.least;
+        start = from_all K ((s.start, map Some s.values) ∷ []) (u.start, tt);
+        followed = λ i e p d. from_all K (equation_brings a e (get_or K i None)) (u.followed i e p d);
+      },
+    )
+
 module _ (a : Alg) (s : System) (h : Shaped s) where
   abbrev ns : List ℕ
   ns = arities s.equations
 
   module _ (T : List Kept) (i : ℕ) (vs : List (Option ℕ)) (e : kept_at T i ≡ Fresh vs) where
     -- an entry that is to be followed is an equation's
-    entry : (l : Learnt a s T) → Tells (Fresh vs) (get_or l.0 i None)
+    entry : (l : Inside a s T) → Tells (Fresh vs) (get_or l.0 i None)
     entry l = subst (λ k. Tells k (get_or l.0 i None)) e (l.1 i)
 
-    equation_there : Learnt a s T → (q : Equation) × (at s.equations i ≡ Some q)
+    equation_there : Inside a s T → (q : Equation) × (at s.equations i ≡ Some q)
     equation_there l =
         let t = entry l in
         let m = at_map_some (λ (e : Equation). length e.sorts) s.equations i (length t.0) (shape_at l.2.shape i t.0 t.1) in
         (m.0, m.1)
 
     -- it is followed
-    followed_learnt : (U : List Kept) (l : Learnt a s T) (q : Equation) → at s.equations i ≡ Some q → Brings (equation_brings a q (Some (entry l).0)) (set T i (Followed vs)) U → Learnt a s U
+    followed_learnt : (U : List Kept) (l : Inside a s T) (q : Equation) → at s.equations i ≡ Some q → Brings (equation_brings a q (Some (entry l).0)) (set T i (Followed vs)) U → Inside a s U
     followed_learnt U l q p b = (N, shows, learning_next a s h i q ks (λ j. followed (kept_at U j)) l.2 p t.1 keeps)
       where
         t : Tells (Fresh vs) (get_or l.0 i None)
@@ -109,31 +152,33 @@ module _ (a : Alg) (s : System) (h : Shaped s) where
   -- in an outlined file
   module _ (f : List ℕ) (o : Outline) (out : Outlined a f s o) (T : List Kept) (i : ℕ) (vs : List (Option ℕ)) (e : kept_at T i ≡ Fresh vs) (l : Learnt a s T) where
     pub follow_there : i < length (listed o.equations)
-    follow_there = let q = equation_there T i vs e l in let k = at_lt s.equations i q.0 q.1 in omega (arith, out.count)
+    follow_there = let q = equation_there T i vs e (inside a s T l) in let k = at_lt s.equations i q.0 q.1 in omega (arith, out.count)
 
     pub follow_learns : {X : Type 0} (U : List Kept) (t : Told) (r : Result X Missing) → at (listed o.equations) i ≡ Some t →
         ((ks : Known) (h : Header) (q : Equation) (p : ℕ) → Alike vs ks → read_body a (kept_headers o) h f t.body ≡ next q p → Follows (equation_brings a q (Some ks)) (set T i (Followed vs)) U r) →
         Learns a s U r
-    follow_learns U t r at_t b = go r (b (entry T i vs e l).0 (header_of q.0) q.0 read.0 (entry T i vs e l).2 read.1)
+    follow_learns U t r at_t b = go r (b (entry T i vs e (inside a s T l)).0 (header_of q.0) q.0 read.0 (entry T i vs e (inside a s T l)).2 read.1)
       where
         q : (q : Equation) × (at s.equations i ≡ Some q)
-        q = equation_there T i vs e l
+        q = equation_there T i vs e (inside a s T l)
 
         read : (p : ℕ) × (read_body a (kept_headers o) (header_of q.0) f t.body ≡ next q.0 p)
         read = out.bodies i q.0 t q.1 at_t
 
-        go : {X : Type 0} (r : Result X Missing) → Follows (equation_brings a q.0 (Some (entry T i vs e l).0)) (set T i (Followed vs)) U r → Learns a s U r
-        go (Ok x) b = followed_learnt T i vs e U l q.0 q.1 b
+        go : {X : Type 0} (r : Result X Missing) → Follows (equation_brings a q.0 (Some (entry T i vs e (inside a s T l)).0)) (set T i (Followed vs)) U r → Learns a s U r
+        go (Ok x) b = outside a s U (followed_learnt T i vs e U (inside a s T l) q.0 q.1 b)
         go (Err x) b = absurd b
 
   -- once nothing is left to be followed
   pub learnt_least : (T : List Kept) → ((i : ℕ) → fresh (kept_at T i) ≡ false) → Learnt a s T → Least a s (Ok T)
-  learnt_least T n l = subst (Shows T) (learning_end a s h l.2 (λ i q p f. go i (kept_at T i) (n i) f (l.1 i))) l.1
+  learnt_least T n l =
+      let m = inside a s T l in
+      subst (Shows T) (learning_end a s h m.2 (λ i q p f. go i (kept_at T i) (get_or m.0 i None) (n i) f (m.1 i))) m.1
     where
-      go : (i : ℕ) (k : Kept) → fresh k ≡ false → followed k ≡ false → Tells k (get_or l.0 i None) → get_or l.0 i None ≡ None
-      go i Unreached u f t = t
-      go i (Fresh vs) u f t = absurd cc
-      go i (Followed vs) u f t = absurd cc
+      go : (i : ℕ) (k : Kept) (o : Option Known) → fresh k ≡ false → followed k ≡ false → Tells k o → o ≡ None
+      go i Unreached o u f t = t
+      go i (Fresh vs) o u f t = absurd cc
+      go i (Followed vs) o u f t = absurd cc
 
   -- the start
   none_reached : (es : List Equation) (i : ℕ) → get_or {A = Option Known} (map (λ _. None) es) i None ≡ None
@@ -147,7 +192,7 @@ module _ (a : Alg) (s : System) (h : Shaped s) where
   none_kept (suc n) (suc i) = none_kept n i
 
   pub start_learnt : (vs : List (Option ℕ)) → Alike vs (map Some s.values) → length vs ≡ 15 → s.start < 31 → Learnt a s (set (replicate 31 Unreached) s.start (Fresh vs))
-  start_learnt vs alike long low = (learnt (unreached s) s.start (map Some s.values), shows, learning_begin a s h (λ i. followed (kept_at T i)) none)
+  start_learnt vs alike long low = outside a s T (learnt (unreached s) s.start (map Some s.values), shows, learning_begin a s h (λ i. followed (kept_at T i)) none)
     where
       T : List Kept
       T = set (replicate 31 Unreached) s.start (Fresh vs)

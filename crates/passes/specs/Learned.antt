@@ -1,12 +1,12 @@
 -- What the pass C keeps of each equation, and what is brought to it.
 use Rattle.std.specs.Prelude.{◌≡◌, ℕ, suc, ◌+◌, ◌*◌, ◌<◌, ◌≤◌, Bool, true, false, List, [], ◌∷◌, map, length, replicate, Some, None, Option, Ok, Err, Result, slice_index_or}
-use Rattle.definitions.specs.Lists.{sum}
+use Rattle.definitions.specs.Lists.{at, bind, each, sum}
 use Rattle.definitions.specs.Fits.{Every}
 use Rattle.definitions.specs.Alg.{Alg}
-use Rattle.definitions.specs.Systems.{Occurrence, System}
+use Rattle.definitions.specs.Systems.{Occurrence, Equation, System}
 use Rattle.definitions.specs.Values.{known}
-use Rattle.definitions.specs.Constants.{Known, Knowledge, Brought, taken, learnt_all, least_knowledge}
-use Rattle.theorems.proofs.Following.{Learning}
+use Rattle.definitions.specs.Constants.{Known, Knowledge, Brought, equation_brings, taken, learnt_all, reached_below, below, least_knowledge}
+use Rattle.theorems.specs.KnowledgeLaws.{arities}
 use Rattle.terms.specs.Known.{Alike}
 use Rattle.passes.specs.declared.constants.Known.{Known as Kept}
 use Rattle.passes.specs.declared.constants.Known.TheVariants.{Unreached, Fresh, Followed}
@@ -88,9 +88,20 @@ changing Unreached = record { equation = equation.Bare; parameters = replicate 1
 changing (Fresh vs) = record { equation = equation.Stays; parameters = map put vs }
 changing (Followed vs) = record { equation = equation.Stays; parameters = map put vs }
 
--- what is kept is on the way to the least knowledge
+-- what is brought is known already
+abbrev pub Meets : Knowledge → List Brought → Type 0
+Meets K bs = each (λ b. reached_below (Some b.1) (bind (at K b.0) (λ k. k))) bs ≡ true
+
+-- knowledge on the way to the least: the start is known, and of the equations that are done all that they bring
+pub record Underway (a : Alg) (s : System) (done : ℕ → Bool) (K : Knowledge) : Type 0 where
+  pub long : length K ≡ length s.equations
+  pub arity : (i : ℕ) (ks : Known) → slice_index_or K i None ≡ Some ks → at (arities s.equations) i ≡ Some (length ks)
+  pub least : below K (least_knowledge a s) ≡ true
+  pub start : Meets K ((s.start, map Some s.values) ∷ [])
+  pub followed : (i : ℕ) (e : Equation) → at s.equations i ≡ Some e → done i ≡ true → Meets K (equation_brings a e (slice_index_or K i None))
+
 abbrev pub Learnt : Alg → System → List Kept → Type 0
-Learnt a s T = (K : Knowledge) × Shows T K × Learning a s (λ i. followed (kept_at T i)) K
+Learnt a s T = (K : Knowledge) × Shows T K × Underway a s (λ i. followed (kept_at T i)) K
 
 abbrev pub Learns : {X : Type 0} → Alg → System → List Kept → Result X Missing → Type 0
 Learns a s T (Ok x) = Learnt a s T

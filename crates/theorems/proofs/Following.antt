@@ -23,7 +23,7 @@ to_reached None l h = not_yet
 to_reached (Some xs) None h = absurd (false≢true h)
 to_reached (Some xs) (Some ys) h = already (to_unders xs ys h)
 
-to_belows : (K L : Knowledge) → below K L ≡ true → Belows K L
+pub to_belows : (K L : Knowledge) → below K L ≡ true → Belows K L
 to_belows [] [] h = Belows.nil
 to_belows [] (l ∷ L) h = absurd (false≢true h)
 to_belows (k ∷ K) [] h = absurd (false≢true h)
@@ -83,6 +83,14 @@ shape_at (Shape.new z) zero ks e = absurd cc
 shape_at (Shape.new z) (suc i) ks e = shape_at z i ks e
 shape_at (Shape.old ls z) zero ks e = ap (λ (z : Known). Some (length z)) (some_same ls ks e)
 shape_at (Shape.old ls z) (suc i) ks e = shape_at z i ks e
+
+pub shape_of : (ns : List ℕ) (K : Knowledge) → length K ≡ length ns → ((i : ℕ) (ks : Known) → get_or K i None ≡ Some ks → at ns i ≡ Some (length ks)) → Shape ns K
+shape_of [] [] e h = Shape.nil
+shape_of [] (k ∷ K) e h = absurd (omega arith)
+shape_of (n ∷ ns) [] e h = absurd (omega arith)
+shape_of (n ∷ ns) (None ∷ K) e h = Shape.new (shape_of ns K (omega arith) (λ i. h (suc i)))
+shape_of (n ∷ ns) (Some ks ∷ K) e h =
+    subst (λ m. Shape (m ∷ ns) (Some ks ∷ K)) (sym (some_same n (length ks) (h zero ks refl))) (Shape.old ks (shape_of ns K (omega arith) (λ i. h (suc i))))
 
 -- knowledge on the way to the least, where of some equations all that they bring is known
 pub record Learning (a : Alg) (s : System) (done : ℕ → Bool) (K : Knowledge) : Type 0 where
