@@ -1,5 +1,6 @@
 pub mod Fronts
 pub mod Letters
+pub mod Meanings
 pub mod Planned
 pub mod Plans
 pub mod Rewrites

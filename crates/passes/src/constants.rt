@@ -1,4 +1,7 @@
 //! C: a parameter that has one and the same value wherever its equation is reached gives way to that value.
+ghost use Rattle.definitions.specs.Constants.{pass_c};
+ghost use Rattle.passes.specs.Meanings.{c_rules};
+
 use crate::Pass;
 use crate::plan::{Change, EquationChange, Missing, ParameterChange, Plan};
 use crate::rewrite::apply_planned;
@@ -163,6 +166,10 @@ fn plan_constants<G: Algebra>(accepted: &Accepted<G>) -> Result<Plan, Missing> {
 }
 
 impl Pass for Constants {
+    ghost meaning = { λ _. pass_c };
+
+    ghost lawful = { λ _. c_rules };
+
     fn apply<G: Algebra>(&self, alg: &G, file: &[u8], out: &mut [u8]) -> Result<usize, PassFault> {
         apply_planned(alg, file, out, plan_constants)
     }
