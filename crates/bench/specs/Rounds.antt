@@ -5,8 +5,18 @@ use Rattle.faults.specs.declared.PassFault.TheVariants.{Declined}
 use Rattle.faults.specs.declared.Halt.{Halt}
 use Rattle.faults.specs.declared.SettleFault.{SettleFault}
 use Rattle.definitions.specs.Alg.{Alg}
-use Rattle.definitions.specs.Settle.{passes, Round, ended, failed, round_by}
-use Rattle.definitions.specs.Calls.{Settles, Halts}
+use Rattle.definitions.specs.Settle.{wrote, refused, passes, Round, ended, failed, round_by}
+use Rattle.definitions.specs.Calls.{run_by, Settles, Halts}
+
+-- a pass by its letter, in a round
+pub record NotRun (a : Alg) (letter round : ℕ) (before : List ℕ) (x : Halt) : Type 0 where
+  pub why : run_by letter a before ≡ refused x.fault
+  pub named : x.letter ≡ letter
+  pub number : x.round ≡ round
+
+abbrev pub RunWithin : Alg → ℕ → ℕ → List ℕ → List ℕ → Result (Unit {0}) Halt → Type 0
+RunWithin a letter round before after (Ok x) = run_by letter a before ≡ wrote after
+RunWithin a letter round before after (Err x) = NotRun a letter round before x
 
 -- a round on what is held, where the empty list is nothing
 abbrev pub round_on : Alg → List ℕ → Round

@@ -6,7 +6,7 @@ ghost use Rattle.definitions.specs.Past.{Past, loads, runs, letters, settles, ex
 ghost use Rattle.definitions.specs.Histories.{Follows, VerdictKept};
 ghost use Rattle.expansion.specs.Whole.{told};
 ghost use Rattle.bench.specs.Holds.{holding};
-ghost use Rattle.bench.specs.Rounds.{Rounded, Rounds};
+ghost use Rattle.bench.specs.Rounds.{RunWithin, Rounded, Rounds};
 
 use crate::Bench;
 use algebra::Algebra;
@@ -105,17 +105,24 @@ impl Bench {
         expand(alg, self.held(), work, out)
     }
 
+    // One pass of a round.
+    fn run_within<G: Algebra>(&mut self, alg: &G, letter: u8, round: usize) -> Result<(), Halt>
+        ensures { RunWithin (G.meaning alg.now) letter round (holding self.old) (holding self.new) result }
+    {
+        self.run_letter(alg, char::from(letter))
+            .map_err(|fault| Halt {
+                fault,
+                letter,
+                round,
+            })
+    }
+
     // The four passes in turn.
     fn run_round<G: Algebra>(&mut self, alg: &G, round: usize) -> Result<(), Halt>
         ensures { Rounded (G.meaning alg.now) round (holding self.old) (holding self.new) result }
     {
         for letter in *b"CFRU" {
-            self.run_letter(alg, char::from(letter))
-                .map_err(|fault| Halt {
-                    fault,
-                    letter,
-                    round,
-                })?;
+            self.run_within(alg, letter, round)?;
         }
         Ok(())
     }

@@ -10,6 +10,8 @@ use Rattle.definitions.specs.Reading.{Reading, got, bad}
 use Rattle.definitions.specs.ReadSystem.{reading}
 use Rattle.definitions.specs.Written.{system_bits, written}
 use Rattle.definitions.specs.Settle.{Pass, Ran, wrote, refused, ran_on, run, passes, Round, ended, failed, round_by, weight, rounds_for}
+use Rattle.definitions.specs.Constants.{pass_c}
+use Rattle.definitions.specs.Passes.{pass_f, pass_r, pass_u}
 use Rattle.definitions.specs.Calls.{Bytes, Settles, equal, again, Stops, here, later, empty_halt, Halts}
 use Rattle.theorems.proofs.PassRules.{passes_rule}
 use Rattle.theorems.proofs.Packs.{bytes_long}
@@ -50,3 +52,22 @@ ran_some m a (got s) g e z = omega (arith, written_some (m a s), ap length ((fit
 
 pub run_some : (m : Pass) (a : Alg) (f g : List ℕ) → run m a f ≡ wrote g → g ≢ []
 run_some m a f g = ran_some m a (reading a f) g
+
+-- the first of the passes wrote a file, on which the others ran
+through : (m : ℕ × Pass) (ms : List (ℕ × Pass)) (a : Alg) (f g : List ℕ) → round_by a (m ∷ ms) f ≡ ended g → (k : List ℕ) × (run m.1 a f ≡ wrote k) × (round_by a ms k ≡ ended g)
+through m ms a f g e = go (run m.1 a f) refl e
+  where
+    go : (o : Ran) → run m.1 a f ≡ o → elim o as (λ _. Round) [ wrote k ↦ round_by a ms k | refused e ↦ failed e m.0 ] ≡ ended g → (k : List ℕ) × (run m.1 a f ≡ wrote k) × (round_by a ms k ≡ ended g)
+    go (wrote k) r e = (k, r, e)
+    go (refused x) r e = absurd cc
+
+last_some : (ms : List (ℕ × Pass)) (m : ℕ × Pass) (a : Alg) (f g : List ℕ) → round_by a (m ∷ ms) f ≡ ended g → g ≢ []
+last_some [] m a f g e =
+    let t = through m [] a f g e in
+    let q : t.0 ≡ g = let u : ended t.0 ≡ ended g = t.2 in cc in
+    subst (λ (h : List ℕ). h ≢ []) q (run_some m.1 a f t.0 t.1)
+last_some (n ∷ ns) m a f g e = let t = through m (n ∷ ns) a f g e in last_some ns n a t.0 g t.2
+
+-- a round leaves no empty file
+pub round_some : (a : Alg) (f g : List ℕ) → round_by a passes f ≡ ended g → g ≢ []
+round_some a f g = last_some ((0x46, pass_f) ∷ (0x52, pass_r) ∷ (0x55, pass_u) ∷ []) (0x43, pass_c) a f g
