@@ -1,2 +1,4 @@
 pub mod Tails
 pub mod Held
+pub mod Running
+pub mod Rounding

@@ -1,10 +1,12 @@
 //! The calls on a bench.
-ghost use Rattle.std.specs.Prelude.{◌≡◌, []};
-ghost use Rattle.definitions.specs.Calls.{Loads};
-ghost use Rattle.definitions.specs.Past.{Past, loads};
+ghost use Rattle.std.specs.Prelude.{◌≡◌, [], length};
+ghost use Rattle.definitions.specs.Boolean.{expand_on};
+ghost use Rattle.definitions.specs.Calls.{Loads, Answers, run_on, run_by, Settling, Expanding};
+ghost use Rattle.definitions.specs.Past.{Past, loads, runs, letters, settles, expands};
 ghost use Rattle.definitions.specs.Histories.{Follows, VerdictKept};
-ghost use Rattle.bench.specs.Holds.{holding, Keeps};
-ghost use Rattle.expansion.specs.Fronts.{Expands};
+ghost use Rattle.expansion.specs.Whole.{told};
+ghost use Rattle.bench.specs.Holds.{holding};
+ghost use Rattle.bench.specs.Rounds.{RunWithin, Rounded, Rounds};
 
 use crate::Bench;
 use algebra::Algebra;
@@ -52,7 +54,8 @@ impl Bench {
 
     /// Runs a pass on what is held.
     pub fn run<G: Algebra, P: Pass>(&mut self, alg: &G, pass: &P) -> Result<(), PassFault>
-        ensures { Keeps (holding self.old) (holding self.new) result }
+        ensures history { Follows (runs (G.meaning alg.now) (P.meaning pass.now) result) (holding self.old) (holding self.new) }
+        ensures answer { Answers (run_on (P.meaning pass.now) (G.meaning alg.now) (holding self.old)) (holding self.old) (holding self.new) result }
     {
         if self.len == 0 {
             return Err(PassFault::Declined(Reason::BenchEmpty));
@@ -65,7 +68,8 @@ impl Bench {
 
     /// Runs the pass that goes by the letter.
     pub fn run_letter<G: Algebra>(&mut self, alg: &G, letter: char) -> Result<(), PassFault>
-        ensures { Keeps (holding self.old) (holding self.new) result }
+        ensures history { Follows (letters (G.meaning alg.now) letter result) (holding self.old) (holding self.new) }
+        ensures answer { Answers (run_by letter (G.meaning alg.now) (holding self.old)) (holding self.old) (holding self.new) result }
     {
         if self.len == 0 {
             return Err(PassFault::Declined(Reason::BenchEmpty));
@@ -76,7 +80,8 @@ impl Bench {
 
     /// Runs the four passes one after the other, round after round, up to the first round that changes nothing, and tells its number.
     pub fn settle<G: Algebra>(&mut self, alg: &G) -> Result<usize, SettleFault>
-        ensures { Keeps (holding self.old) (holding self.new) result }
+        ensures history { Follows (settles (G.meaning alg.now) result) (holding self.old) (holding self.new) }
+        ensures answer { Settling (G.meaning alg.now) (holding self.old) (holding self.new) result }
     {
         let mut work = *self;
         let rounds = work.run_rounds(alg)?;
@@ -91,7 +96,8 @@ impl Bench {
         work: &mut [Instance],
         out: &mut [u8],
     ) -> Result<Expansion, ExpandFault>
-        ensures { Expands out.old out.new result }
+        ensures history { Follows (expands (G.meaning alg.now) (length work.old) out.old out.new (told result)) (holding self.now) (holding self.now) }
+        ensures answer { Expanding (expand_on (G.meaning alg.now) (length work.old) (length out.old) (holding self.now)) out.old out.new (told result) }
     {
         if self.len == 0 {
             return Err(ExpandFault::Refused(Reason::BenchEmpty));
@@ -99,30 +105,41 @@ impl Bench {
         expand(alg, self.held(), work, out)
     }
 
+    // One pass of a round.
+    fn run_within<G: Algebra>(&mut self, alg: &G, letter: u8, round: usize) -> Result<(), Halt>
+        ensures { RunWithin (G.meaning alg.now) letter round (holding self.old) (holding self.new) result }
+    {
+        self.run_letter(alg, char::from(letter))
+            .map_err(|fault| Halt {
+                fault,
+                letter,
+                round,
+            })
+    }
+
     // The four passes in turn.
-    fn run_round<G: Algebra>(&mut self, alg: &G, round: usize) -> Result<(), Halt> {
+    fn run_round<G: Algebra>(&mut self, alg: &G, round: usize) -> Result<(), Halt>
+        ensures { Rounded (G.meaning alg.now) round (holding self.old) (holding self.new) result }
+    {
         for letter in *b"CFRU" {
-            self.run_letter(alg, char::from(letter))
-                .map_err(|fault| Halt {
-                    fault,
-                    letter,
-                    round,
-                })?;
+            self.run_within(alg, letter, round)?;
         }
         Ok(())
     }
 
     // Rounds until one leaves the file equal: the number of the last.
-    fn run_rounds<G: Algebra>(&mut self, alg: &G) -> Result<usize, SettleFault> {
-        // Each round but the last makes the system smaller, and no system in a file of 65,536 bits is larger than that.
-        for round in 1..65537usize {
+    fn run_rounds<G: Algebra>(&mut self, alg: &G) -> Result<usize, SettleFault>
+        ensures { Rounds (G.meaning alg.now) (holding self.old) (holding self.new) result }
+    {
+        let mut round = 1;
+        // It ends: each round but the last makes the system smaller.
+        loop {
             let before = *self;
             self.run_round(alg, round)?;
             if before.held() == self.held() {
                 return Ok(round);
             }
+            round += 1;
         }
-        // Rounds do not run out.
-        Ok(65537)
     }
 }

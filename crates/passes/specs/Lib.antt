@@ -1,6 +1,7 @@
 pub mod Fronts
 pub mod Learned
 pub mod Letters
+pub mod Meanings
 pub mod Planned
 pub mod Plans
 pub mod Rewrites

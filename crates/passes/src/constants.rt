@@ -6,14 +6,12 @@ ghost use Rattle.definitions.specs.Systems.{Occurrence, Clause, Equation, System
 ghost use Rattle.definitions.specs.Reading.{next};
 ghost use Rattle.definitions.specs.ReadSystem.{Scope, Header, read_body};
 ghost use Rattle.definitions.specs.Constants.{Known as KnownValues, agreed as both_know, agreed_all, clause_brings, equation_brings, pass_c};
-ghost use Rattle.definitions.specs.Rules.{applied};
-ghost use Rattle.definitions.specs.Calls.{Applies};
 ghost use Rattle.theorems.specs.KnowledgeLaws.{Shaped};
 ghost use Rattle.terms.specs.Known.{Alike};
 ghost use Rattle.system.specs.Walks.{OccurrenceOf, ClauseOf, Pairs};
 ghost use Rattle.system.specs.Whole.{kept_headers, Outlined};
 ghost use Rattle.passes.specs.declared.constants.Known.TheVariants.{Fresh};
-ghost use Rattle.passes.specs.Fronts.{Fronts};
+ghost use Rattle.passes.specs.Meanings.{c_rules};
 ghost use Rattle.passes.specs.Plans.{knowing, Planning};
 ghost use Rattle.passes.specs.Learned.{kept_at, ranks, put, occurrence_brings, Joins, Brings, Follows, NextPending, changing, Learnt, Learns, Least};
 
@@ -256,6 +254,7 @@ fn least_knowledge<G: Algebra>(accepted: &Accepted<G>) -> Result<[Known; 31], Mi
     ensures { (s : System) → length accepted.now.file.now ≤ 65536 → Outlined (G.meaning accepted.now.alg.now) accepted.now.file.now s accepted.now.outline.now → Shaped s → Least (G.meaning accepted.now.alg.now) s result }
 {
     let mut knowledge = know_start(accepted.outline);
+    // It ends: an equation that was followed is fresh again only with fewer values known.
     while let Some(pending) = next_pending(&knowledge) {
         follow(accepted, &pending, &mut knowledge)?;
     }
@@ -285,10 +284,11 @@ fn plan_constants<G: Algebra>(accepted: &Accepted<G>) -> Result<Plan, Missing>
 }
 
 impl Pass for Constants {
-    fn apply<G: Algebra>(&self, alg: &G, file: &[u8], out: &mut [u8]) -> Result<usize, PassFault>
-        ensures fronts { Fronts out.old out.new result }
-        ensures meant { Applies (applied pass_c (G.meaning alg.now) (length out.old) file.now) out.old out.new result }
-    {
+    ghost meaning = { λ _. pass_c };
+
+    ghost lawful = { λ _. c_rules };
+
+    fn apply<G: Algebra>(&self, alg: &G, file: &[u8], out: &mut [u8]) -> Result<usize, PassFault> {
         apply_planned(alg, file, out, plan_constants)
     }
 }

@@ -2,10 +2,8 @@
 ghost use Rattle.std.specs.Prelude.{◌≡◌, ◌≤◌, length};
 ghost use Rattle.definitions.specs.Systems.{System};
 ghost use Rattle.definitions.specs.Passes.{pass_f};
-ghost use Rattle.definitions.specs.Rules.{applied};
-ghost use Rattle.definitions.specs.Calls.{Applies};
 ghost use Rattle.system.specs.Whole.{Outlined};
-ghost use Rattle.passes.specs.Fronts.{Fronts};
+ghost use Rattle.passes.specs.Meanings.{f_rules};
 ghost use Rattle.passes.specs.Plans.{folding, Planning};
 ghost use Rattle.passes.specs.Rewrites.{false_at};
 
@@ -44,10 +42,11 @@ fn plan_folding<G: Algebra>(accepted: &Accepted<G>) -> Result<Plan, Missing>
 }
 
 impl Pass for Fold {
-    fn apply<G: Algebra>(&self, alg: &G, file: &[u8], out: &mut [u8]) -> Result<usize, PassFault>
-        ensures fronts { Fronts out.old out.new result }
-        ensures meant { Applies (applied pass_f (G.meaning alg.now) (length out.old) file.now) out.old out.new result }
-    {
+    ghost meaning = { λ _. pass_f };
+
+    ghost lawful = { λ _. f_rules };
+
+    fn apply<G: Algebra>(&self, alg: &G, file: &[u8], out: &mut [u8]) -> Result<usize, PassFault> {
         apply_planned(alg, file, out, plan_folding)
     }
 }

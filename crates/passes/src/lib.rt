@@ -2,7 +2,10 @@
 
 #![tactic(auto)]
 
-ghost use Rattle.passes.specs.Fronts.{Fronts};
+ghost use Rattle.std.specs.Prelude.{length};
+ghost use Rattle.definitions.specs.Settle.{Pass as Meaning};
+ghost use Rattle.definitions.specs.Rules.{Rules, applied};
+ghost use Rattle.definitions.specs.Calls.{Applies};
 
 pub mod constants;
 pub mod folding;
@@ -19,7 +22,15 @@ use faults::PassFault;
 
 /// A pass: over each algebra it turns a system into another.
 pub trait Pass {
+    /// What it makes of a system, over each algebra.
+    ghost meaning: { Self → Meaning };
+
     /// Writes the file of the meant system to the front of `out`, and tells its length.
+    ///
+    /// A file that does not read, or a written one that fits neither `out` nor 8,192 bytes, is refused, and `out` stays.
     fn apply<G: Algebra>(&self, alg: &G, file: &[u8], out: &mut [u8]) -> Result<usize, PassFault>
-        ensures { Fronts out.old out.new result };
+        ensures { Applies (applied (meaning self.now) (G.meaning alg.now) (length out.old) file.now) out.old out.new result };
+
+    // Over every lawful algebra the system that is meant fits and has the same verdict.
+    ghost lawful: { (x : Self) → Rules (meaning x) };
 }

@@ -3,6 +3,7 @@ ghost use Rattle.faults.specs.declared.Reason.TheVariants.{NoSuchName};
 ghost use Rattle.faults.specs.declared.PassFault.TheVariants.{Declined};
 ghost use Rattle.std.specs.Prelude.{◌≡◌};
 ghost use Rattle.passes.specs.Letters.{Names};
+ghost use Rattle.passes.specs.Meanings.{meaning_of, named_rules};
 
 use crate::Pass;
 use crate::constants::Constants;
@@ -51,6 +52,10 @@ impl From<NoSuchPass> for PassFault {
 
 // Each pass is a type of its own, so that a pass of another crate is run like these.
 impl Pass for Named {
+    ghost meaning = { meaning_of };
+
+    ghost lawful = { named_rules };
+
     fn apply<G: Algebra>(&self, alg: &G, file: &[u8], out: &mut [u8]) -> Result<usize, PassFault> {
         match self {
             Named::Constants => Constants {}.apply(alg, file, out),

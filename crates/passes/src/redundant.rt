@@ -1,5 +1,8 @@
 //! R: parameters that reach no mark are removed. A mark is an occurrence in h or in a guard, and a parameter points to
 //! each parameter in whose argument it occurs.
+ghost use Rattle.definitions.specs.Passes.{pass_r};
+ghost use Rattle.passes.specs.Meanings.{r_rules};
+
 use crate::Pass;
 use crate::plan::{Change, EquationChange, Missing, ParameterChange, Plan};
 use crate::rewrite::apply_planned;
@@ -151,6 +154,10 @@ fn plan_needed<G: Algebra>(accepted: &Accepted<G>) -> Result<Plan, Missing> {
 }
 
 impl Pass for Redundant {
+    ghost meaning = { λ _. pass_r };
+
+    ghost lawful = { λ _. r_rules };
+
     fn apply<G: Algebra>(&self, alg: &G, file: &[u8], out: &mut [u8]) -> Result<usize, PassFault> {
         apply_planned(alg, file, out, plan_needed)
     }

@@ -1,4 +1,7 @@
 //! U: only the equations that the start leads to, over any number of occurrences, stay.
+ghost use Rattle.definitions.specs.Passes.{pass_u};
+ghost use Rattle.passes.specs.Meanings.{u_rules};
+
 use crate::Pass;
 use crate::plan::{EquationChange, Missing, Plan};
 use crate::rewrite::apply_planned;
@@ -73,6 +76,10 @@ fn plan_reachable<G: Algebra>(accepted: &Accepted<G>) -> Result<Plan, Missing> {
 }
 
 impl Pass for Unreachable {
+    ghost meaning = { λ _. pass_u };
+
+    ghost lawful = { λ _. u_rules };
+
     fn apply<G: Algebra>(&self, alg: &G, file: &[u8], out: &mut [u8]) -> Result<usize, PassFault> {
         apply_planned(alg, file, out, plan_reachable)
     }

@@ -51,7 +51,7 @@ ran_short m a (bad r p) g e = absurd cc
 pub written_bytes : (s : System) → Bytes (written s)
 written_bytes s = small_bytes ((length (system_bits s) + 7) / 8) (system_bits s) (system_bits_lem s)
 
-ran_bytes : (m : Pass) (a : Alg) (r : Reading System) (g : List ℕ) → ran_on m a r ≡ wrote g → Bytes g
+pub ran_bytes : (m : Pass) (a : Alg) (r : Reading System) (g : List ℕ) → ran_on m a r ≡ wrote g → Bytes g
 ran_bytes m a (got s) g e = subst Bytes (fitted_short (written (m a s)) g e).1 (written_bytes (m a s))
 ran_bytes m a (bad r p) g e = absurd cc
 

@@ -40,6 +40,7 @@ pub mod Ranges
 pub mod Reaching
 pub mod Refit
 pub mod Repack
+pub mod Rounding
 pub mod RoundStrict
 pub mod Settled
 pub mod Shapes

@@ -24,12 +24,12 @@ use Rattle.theorems.proofs.PassRules.{passes_rule}
 use Rattle.theorems.proofs.Histories.{fitted_short, AllRule, all_rule}
 use Rattle.theorems.proofs.RoundStrict.{round_strict}
 
-abbrev applied : List (ℕ × Pass) → Alg → System → System
+abbrev pub applied : List (ℕ × Pass) → Alg → System → System
 applied [] a s = s
 applied (m ∷ ms) a s = applied ms a (m.1 a s)
 
 -- the file f is that of the system s, which fits
-record Is (a : Alg) (f : List ℕ) (s : System) : Type 0 where
+pub record Is (a : Alg) (f : List ℕ) (s : System) : Type 0 where
   pub reads : reading a f ≡ got s
   pub fits : SystemFits a s
   pub file : written s ≡ f
@@ -38,7 +38,7 @@ got_same : {x y : System} → got x ≡ got y → x ≡ y
 got_same e = cc
 
 module _ (a : Alg) (law : Lawful a) where
-  applied_is : (ms : List (ℕ × Pass)) → AllRule ms → (f g : List ℕ) (s : System) → round_by a ms f ≡ ended g → Is a f s → Is a g (applied ms a s)
+  pub applied_is : (ms : List (ℕ × Pass)) → AllRule ms → (f g : List ℕ) (s : System) → round_by a ms f ≡ ended g → Is a f s → Is a g (applied ms a s)
   applied_is [] rs f g s e i = let q : f ≡ g = cc in subst (λ (f : List ℕ). Is a f s) q i
   applied_is (m ∷ ms) rs f g s e i = go (λ k. applied_is ms rs.1 k g (m.1 a s)) (run m.1 a f) refl e
     where
@@ -81,7 +81,7 @@ module _ (a : Alg) (law : Lawful a) where
   ends (suc n) k f s i l = one_round n (ends n) k f s i l
 
 -- a file that is not read is refused by the first pass
-unread : (a : Alg) (f : List ℕ) (r : Reason) (p : ℕ) → reading a f ≡ bad r p → round_by a passes f ≡ failed (Unread (record { reason = r; place = p })) 0x43
+pub unread : (a : Alg) (f : List ℕ) (r : Reason) (p : ℕ) → reading a f ≡ bad r p → round_by a passes f ≡ failed (Unread (record { reason = r; place = p })) 0x43
 unread a f r p e = ap (λ (o : Ran). elim o as (λ _. Round) [ wrote g ↦ round_by a ((0x46, pass_f) ∷ (0x52, pass_r) ∷ (0x55, pass_u) ∷ []) g | refused e ↦ failed e 0x43 ]) (ap (ran_on pass_c a) e)
 
 pub settle_answers : SettlingEnds

@@ -1,9 +1,10 @@
-use Rattle.std.proofs.Common.{◌≡◌, Ok, Err, length, take, ap, ◌∙◌, arith}
+use Rattle.std.proofs.Common.{◌≡◌, Ok, Err, length, take, sym, ap, ◌∙◌, subst, arith}
 use Rattle.std.proofs.lemmas.Result.{err_from_is_err_and}
+use Rattle.definitions.specs.Calls.{Bytes}
 use Rattle.bench.specs.Holds.{holding}
 use Rattle.bench.proofs.Tails.{zeros, tail_zero, seam_front, seam_rest}
 use Rattle.system.proofs.Outlines.{got_short}
-use Rattle.bench.proofs.Held.{declined_load, load_follows}
+use Rattle.bench.proofs.Held.{are_bytes, each_byte, declined_load, load_follows}
 use Rattle.bench.proofs.Bench.load.Goals as goal
 
 pub returns-in_err-read-clause-history : goal.returns-in_err-read-clause-history
@@ -21,6 +22,7 @@ invariant_of-self g c =
     let e = rw c.unwrap-len.ensures at c.deliver.ensures.delivered in
     record {
       bound = omega (arith, n, got_short (g.G.Algebra.meaning c.args.alg.now) c.args.file.now d.0 d.1.0);
+      small = each_byte _ (subst Bytes (sym (ap (λ m. take m c.deliver.new.out) n ∙ seam_front c.args.file.now _ c.deliver.new.out e)) (are_bytes c.args.file.now (λ i. let t = c.type_inv.file i in omega arith)));
       zeros = λ k h. tail_zero (length c.args.file.now) c.deliver.new.out _ (seam_rest c.args.file.now _ _ e) (zeros 8192) k (omega (arith, n, h));
     }
 
