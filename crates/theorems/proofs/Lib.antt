@@ -20,6 +20,7 @@ pub mod FitsF
 pub mod Forms
 pub mod Forth
 pub mod Goods
+pub mod Gathered
 pub mod Histories
 pub mod KeepsC
 pub mod KeepsCut
