@@ -1,13 +1,13 @@
 -- Lists in which each record stands once, and what is in those that are closed under what R and U follow.
-use Rattle.std.proofs.Common.{◌≡◌, ℕ, zero, suc, ◌+◌, ◌*◌, ◌<◌, ◌≤◌, Bool, true, false, List, [], ◌∷◌, map, length, get_or, Some, Option, sym, refl, ap, ◌∙◌, subst, true≢false, arith}
+use Rattle.std.proofs.Common.{◌≡◌, ℕ, zero, suc, ◌+◌, ◌*◌, ◌<◌, ◌≤◌, Bool, true, false, ◌||◌, eqb, List, [], ◌∷◌, map, length, get_or, Some, Option, sym, refl, ap, ◌∙◌, subst, true≢false, arith}
 use mathlib.Core.Bool.{false≢true}
 use mathlib.Core.List.Memᴰ
 use mathlib.Core.List.{Memᴰ}
 use lib.ListN.{length-map}
-use Rattle.definitions.specs.Lists.{at, some, flat, from, up_to}
+use Rattle.definitions.specs.Lists.{at, some, flat, from, up_to, strike}
 use Rattle.definitions.specs.Systems.{Term, Occurrence, Clause, Equation, System}
 use Rattle.definitions.specs.Solution.{iter}
-use Rattle.definitions.specs.Passes.{occurs_in, marked, occurrences, chained, reachable, needed}
+use Rattle.definitions.specs.Passes.{occurs_in, marked, occurrences, calls, chained, reachable, needed}
 use Rattle.definitions.specs.Reach.{ReachesMark, is_marked, leads_on, ReachedEquation, is_start, is_called}
 use Rattle.theorems.proofs.Closing.{times_iter}
 use Rattle.theorems.proofs.Listing.{none_some, some_same, at_lt, at_map_some, from_long}
@@ -79,7 +79,7 @@ module _ (s : System) (H : ℕ → Type 0) (start : H s.start) (next : (i : ℕ)
 
 round_low : (s : System) (n : ℕ) → length (iter n (chained s) []) ≤ length s.equations
 round_low s zero = omega arith
-round_low s (suc n) = omega (arith, length-map (up_to (length s.equations)) (λ j. get_or (chained s (iter n (chained s) [])) j false), from_long 0 (length s.equations))
+round_low s (suc n) = omega (arith, length-map (up_to (length s.equations)) (λ j. eqb j s.start || some (calls j) (strike (iter n (chained s) []) s.equations)), from_long 0 (length s.equations))
 
 pub reachable_low : (s : System) (j : ℕ) → get_or (reachable s) j false ≡ true → j < length s.equations
 reachable_low s j h =
