@@ -139,3 +139,6 @@ pairs_long R (x ∷ xs) (y ∷ ys) h = ap suc (pairs_long R xs ys h.1)
 pub brings_as : {T : Type 0} (p : T → Bool) {V W : T → Type 0} {old mid new : FirstCome T} (r : Result (Unit {0}) Missing) → (Brought p V mid new → Brought p W old new) → Brings p V mid new r → Brings p W old new r
 brings_as p (Ok u) f b = f b
 brings_as p (Err e) f b = b
+
+pub brought_after : {T : Type 0} (p : T → Bool) {V W : T → Type 0} {old mid new : FirstCome T} → Brought p V old mid → Brought p W mid new → Brought p W old new
+brought_after p b c = record { room = c.room; kept = λ k x e. c.kept k x (b.kept k x e); came = c.came }

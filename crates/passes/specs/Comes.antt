@@ -1,5 +1,5 @@
 -- What the passes R and U let come to a first-come list.
-use Rattle.std.specs.Prelude.{◌≡◌, ℕ, ◌<◌, ◌≤◌, Bool, true, false, List, map, length, Some, Ok, Err, Result, slice_index_or}
+use Rattle.std.specs.Prelude.{◌≡◌, ℕ, ◌<◌, ◌≤◌, Bool, true, false, List, map, length, Some, Ok, Err, Result, nat_eq, replicate, slice_index_or}
 use mathlib.Core.List.{Memᴰ}
 use Rattle.definitions.specs.Lists.{at, flat}
 use Rattle.definitions.specs.Systems.{Term, Occurrence, Clause, Equation, System}
@@ -7,6 +7,9 @@ use Rattle.definitions.specs.Passes.{occurs_in, marked, occurrences, reachable, 
 use Rattle.firstcome.specs.declared.FirstCome.{FirstCome}
 use Rattle.firstcome.specs.Coming.{listed}
 use Rattle.system.specs.declared.places.OccurrenceAt.{OccurrenceAt}
+use Rattle.passes.specs.declared.plan.ParameterChange.TheVariants.{Stays}
+use Rattle.passes.specs.declared.plan.EquationChange.TheVariants as equation
+use Rattle.passes.specs.declared.plan.Plan.{Plan}
 use Rattle.passes.specs.declared.plan.Missing.{Missing}
 use Rattle.passes.specs.declared.unreachable_equations.EquationNumber.{EquationNumber}
 
@@ -44,6 +47,9 @@ Gathers {T} W old new r = (p : T → Bool) → Room p old → ((x : T) → W x �
 abbrev pub number : ℕ → EquationNumber
 number i = record { index = i }
 
+abbrev pub is_number : ℕ → EquationNumber → Bool
+is_number i y = nat_eq y.index i
+
 abbrev pub Found : List OccurrenceAt → EquationNumber → Type 0
 Found xs x = (k : ℕ) × (o : OccurrenceAt) × (at xs k ≡ Some o) × (x ≡ number o.target)
 
@@ -56,3 +62,8 @@ Led s ys n x = (j : ℕ) × (y : EquationNumber) × (e : Equation) × (j < n) ×
 
 abbrev pub reached : System → EquationNumber → Bool
 reached s x = slice_index_or (reachable s) x.index false
+
+-- the plan by which the equations that are as told stay, and the others go
+pub record Keeping (q : ℕ → Bool) (P : Plan) : Type 0 where
+  pub fold : P.fold ≡ false
+  pub each : (i : ℕ) → i < 31 → at P.equations i ≡ Some (record { equation = elim (q i) [ true ↦ equation.Stays | false ↦ equation.Goes ]; parameters = replicate 15 Stays })

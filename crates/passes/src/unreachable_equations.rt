@@ -3,11 +3,17 @@ ghost use Rattle.std.specs.Prelude.{◌≡◌, ℕ, ◌≤◌, List, length, tru
 ghost use Rattle.definitions.specs.Systems.{Clause as ReadClause, Equation as ReadEquation, System};
 ghost use Rattle.definitions.specs.Reading.{next};
 ghost use Rattle.definitions.specs.ReadSystem.{Scope, Header as Heading, read_body};
+ghost use Rattle.definitions.specs.Lists.{some};
+ghost use Rattle.definitions.specs.Passes.{pass_u};
+ghost use Rattle.definitions.specs.Rules.{applied};
+ghost use Rattle.definitions.specs.Calls.{Applies};
 ghost use Rattle.definitions.specs.Fits.{SystemFits};
 ghost use Rattle.firstcome.specs.Coming.{listed as came};
 ghost use Rattle.system.specs.Whole.{kept_headers, Outlined};
 ghost use Rattle.system.specs.Walks.{ClauseOf, Pairs};
-ghost use Rattle.passes.specs.Comes.{Room, Brings, Gathers, Found, Called, Led, reached};
+ghost use Rattle.passes.specs.Fronts.{Fronts};
+ghost use Rattle.passes.specs.Plans.{keeping, Planning};
+ghost use Rattle.passes.specs.Comes.{Room, Brings, Gathers, Found, Called, Led, Keeping, is_number, reached};
 
 use crate::Pass;
 use crate::plan::{EquationChange, Missing, Plan};
@@ -104,22 +110,35 @@ fn reached_come<G: Algebra>(
     followed(accepted, list)
 }
 
+// The plan by which the equations that came stay, and the others go.
+fn plan_keeping(list: &FirstCome<EquationNumber>) -> Plan
+    ensures { Keeping (λ i. some (is_number i) (came list.now)) result }
+{
+    let mut plan = Plan::none();
+    // By index: of what an adapter of `iter_mut` has written a proof knows nothing afterwards.
+    for index in 0..31 {
+        if list.find(&EquationNumber { index }).is_none() {
+            plan.equations[index].equation = EquationChange::Goes;
+        }
+    }
+    plan
+}
+
 // Only the equations that are reached stay.
-fn plan_reachable<G: Algebra>(accepted: &Accepted<G>) -> Result<Plan, Missing> {
+fn plan_reachable<G: Algebra>(accepted: &Accepted<G>) -> Result<Plan, Missing>
+    ensures { (s : System) → length accepted.now.file.now ≤ 65536 → Outlined (G.meaning accepted.now.alg.now) accepted.now.file.now s accepted.now.outline.now → SystemFits (G.meaning accepted.now.alg.now) s → Planning (keeping s) result }
+{
     let mut room = [EquationNumber { index: 0 }; 31];
     let mut list = FirstCome::new(&mut room);
     reached_come(accepted, &mut list)?;
-    let mut plan = Plan::none();
-    for (index, change) in plan.equations.iter_mut().enumerate() {
-        if list.find(&EquationNumber { index }).is_none() {
-            change.equation = EquationChange::Goes;
-        }
-    }
-    Ok(plan)
+    Ok(plan_keeping(&list))
 }
 
 impl Pass for Unreachable {
-    fn apply<G: Algebra>(&self, alg: &G, file: &[u8], out: &mut [u8]) -> Result<usize, PassFault> {
+    fn apply<G: Algebra>(&self, alg: &G, file: &[u8], out: &mut [u8]) -> Result<usize, PassFault>
+        ensures fronts { Fronts out.old out.new result }
+        ensures meant { Applies (applied pass_u (G.meaning alg.now) (length out.old) file.now) out.old out.new result }
+    {
         apply_planned(alg, file, out, plan_reachable)
     }
 }
