@@ -142,3 +142,15 @@ brings_as p (Err e) f b = b
 
 pub brought_after : {T : Type 0} (p : T → Bool) {V W : T → Type 0} {old mid new : FirstCome T} → Brought p V old mid → Brought p W mid new → Brought p W old new
 brought_after p b c = record { room = c.room; kept = λ k x e. c.kept k x (b.kept k x e); came = c.came }
+
+-- a list to which nothing came
+pub fresh_room : {T : Type 0} (p : T → Bool) (l : FirstCome T) → l.len ≡ 0 → ((xs : List T) → Once xs → Passing p xs → length xs ≤ length l.items.now) → Room p l
+fresh_room {T} p l e few =
+    record {
+      once = λ i j x q r. absurd (none i x q);
+      pass = λ k x q. absurd (none k x q);
+      places = few;
+    }
+  where
+    none : (k : ℕ) (x : T) → at (listed l) k ≡ Some x → ⊥
+    none k x q = let low = at_lt (listed l) k x q in omega (arith, listed_long l, e)

@@ -1,7 +1,14 @@
 -- Plans that are made of what came.
 use Rattle.std.proofs.Common.{◌≡◌, ℕ, zero, suc, ◌+◌, ◌<◌, ◌≤◌, Bool, true, false, List, [], ◌∷◌, length, set, get_or, replicate, Some, None, Option, sym, refl, ap, ◌∙◌, subst, arith}
-use native.Mathlib.Decide.{dec_lt, dec_eq}
-use Rattle.definitions.specs.Lists.{at, some, is_some}
+use native.Mathlib.Decide.{dec_lt}
+use Rattle.std.specs.Option.{is_some}
+use Rattle.definitions.specs.Lists.{at, some}
+use Rattle.definitions.specs.Alg.{Alg, Lawful}
+use Rattle.definitions.specs.Systems.{System}
+use Rattle.definitions.specs.Fits.{SystemFits}
+use Rattle.theorems.proofs.Sounds.{sound_system}
+use Rattle.system.specs.declared.outline.Outline.{Outline}
+use Rattle.system.specs.Whole.{Outlined}
 use Rattle.theorems.proofs.Listing.{some_same, get_or_some}
 use Rattle.firstcome.specs.Coming.{place_from, place_of}
 
@@ -79,3 +86,7 @@ pub same_truth : (p q : Bool) → (p ≡ true → q ≡ true) → (q ≡ true �
 same_truth true q f g = sym (f refl)
 same_truth false true f g = g refl
 same_truth false false f g = refl
+
+-- a system that is outlined fits its algebra
+pub outlined_fits : (a : Alg) → Lawful a → (f : List ℕ) (s : System) (o : Outline) → Outlined a f s o → SystemFits a s
+outlined_fits a law f s o out = ((sound_system f a law).run 0 (omega arith) s o.end out.whole).fact.1

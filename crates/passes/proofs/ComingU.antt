@@ -129,3 +129,6 @@ keeping_reached a s P {l = l} fit b k = record { fold = k.fold; each_equation = 
 
     few : (i : ℕ) (e : Equation) → at s.equations i ≡ Some e → (n : ℕ) → n < length e.sorts → n < 15
     few i e is n m = let h = (every_at (HeaderFits a) (map header_of s.equations) i (header_of e) (at_mapped header_of s.equations i e is) fit.headers).few in omega arith
+
+abbrev pub gone : Change → Change
+gone c = record { equation = equation.Goes; parameters = c.parameters }

@@ -13,7 +13,7 @@ ghost use Rattle.system.specs.Whole.{kept_headers, Outlined};
 ghost use Rattle.system.specs.Walks.{ClauseOf, Pairs};
 ghost use Rattle.passes.specs.Fronts.{Fronts};
 ghost use Rattle.passes.specs.Plans.{keeping, Planning};
-ghost use Rattle.passes.specs.Comes.{Room, Brings, Gathers, Found, Called, Led, Keeping, is_number, reached};
+ghost use Rattle.passes.specs.Comes.{Brings, Called, Found, Gathers, Keeping, Led, Room, is_number, reached};
 
 use crate::Pass;
 use crate::plan::{EquationChange, Missing, Plan};
@@ -126,7 +126,7 @@ fn plan_keeping(list: &FirstCome<EquationNumber>) -> Plan
 
 // Only the equations that are reached stay.
 fn plan_reachable<G: Algebra>(accepted: &Accepted<G>) -> Result<Plan, Missing>
-    ensures { (s : System) → length accepted.now.file.now ≤ 65536 → Outlined (G.meaning accepted.now.alg.now) accepted.now.file.now s accepted.now.outline.now → SystemFits (G.meaning accepted.now.alg.now) s → Planning (keeping s) result }
+    ensures { (s : System) → length accepted.now.file.now ≤ 65536 → Outlined (G.meaning accepted.now.alg.now) accepted.now.file.now s accepted.now.outline.now → Planning (keeping s) result }
 {
     let mut room = [EquationNumber { index: 0 }; 31];
     let mut list = FirstCome::new(&mut room);
