@@ -1,5 +1,5 @@
 -- What came to a first-come list: one record more, and loops of them.
-use Rattle.std.proofs.Common.{◌≡◌, ℕ, zero, suc, ◌+◌, ◌<◌, ◌≤◌, ◌⊎◌, inl, inr, Bool, true, false, List, [], ◌∷◌, ◌++◌, length, take, get_or, Some, None, Option, Ok, Err, Result, sym, refl, ap, ◌∙◌, subst, add-one, arith}
+use Rattle.std.proofs.Common.{◌≡◌, ℕ, zero, suc, ◌+◌, ◌<◌, ◌≤◌, ◌⊎◌, inl, inr, Bool, true, false, List, [], ◌∷◌, ◌++◌, length, take, get_or, Some, None, Option, Ok, Err, Result, sym, refl, ap, ap₂, ◌∙◌, subst, add-one, arith}
 use Rattle.std.proofs.lemmas.List.{length-take-le, length-append}
 use native.Mathlib.Decide.{dec_lt}
 use Rattle.definitions.specs.Lists.{at, some}
@@ -66,8 +66,8 @@ module _ {T : Type 0} (p : T → Bool) (x : T) (yes : p x ≡ true) where
             }
 
 -- loops: what is wanted for each of the first i things is wanted
-abbrev pub Front : {Y T : Type 0} → (Y → T → Type 0) → List Y → ℕ → T → Type 0
-Front {Y} W ys i x = (j : ℕ) × (y : Y) × (j < i) × (at ys j ≡ Some y) × W y x
+abbrev pub Front : {Y T : Type 0} → (ℕ → Y → T → Type 0) → List Y → ℕ → T → Type 0
+Front {Y} W ys i x = (j : ℕ) × (y : Y) × (j < i) × (at ys j ≡ Some y) × W j y x
 
 module _ {T : Type 0} (p : T → Bool) where
   pub brought_none : {W : T → Type 0} (l : FirstCome T) → Room p l → ((x : T) → W x → ⊥) → Brought p W l l
@@ -88,21 +88,21 @@ module _ {T : Type 0} (p : T → Bool) where
       go x (inl v) = let h = b.came x v in (h.0, c.kept h.0 x h.1)
       go x (inr w) = c.came x w
 
-  module _ {Y : Type 0} (W : Y → T → Type 0) (ys : List Y) where
+  module _ {Y : Type 0} (W : ℕ → Y → T → Type 0) (ys : List Y) where
     pub front_first : (l : FirstCome T) → Room p l → Brought p (Front W ys 0) l l
     front_first l room = brought_none l room (λ x w. let h = w.2 in absurd (omega arith))
 
-    pub front_next : {old mid new : FirstCome T} (i : ℕ) (y : Y) → at ys i ≡ Some y → Brought p (Front W ys i) old mid → Brought p (W y) mid new → Brought p (Front W ys (i + 1)) old new
+    pub front_next : {old mid new : FirstCome T} (i : ℕ) (y : Y) → at ys i ≡ Some y → Brought p (Front W ys i) old mid → Brought p (W i y) mid new → Brought p (Front W ys (i + 1)) old new
     front_next i y e b c = brought_as (λ x w. split x w.0 w.1 w.2 w.3 w.4) (brought_then b c)
       where
-        split : (x : T) (j : ℕ) (z : Y) → j < i + 1 → at ys j ≡ Some z → W z x → Front W ys i x ⊎ W y x
+        split : (x : T) (j : ℕ) (z : Y) → j < i + 1 → at ys j ≡ Some z → W j z x → Front W ys i x ⊎ W i y x
         split x j z l q w = go (dec_lt j i)
           where
-            go : Dec (j < i) → Front W ys i x ⊎ W y x
+            go : Dec (j < i) → Front W ys i x ⊎ W i y x
             go (yes m) = inl (j, z, m, q, w)
-            go (no m) = let same : j ≡ i = omega arith in inr (subst (λ u. W u x) (some_same z y (sym q ∙ ap (at ys) same ∙ e)) w)
+            go (no m) = let same : j ≡ i = omega arith in inr (subst (λ u. W i u x) (some_same z y (sym q ∙ ap (at ys) same ∙ e)) (subst (λ m. W m z x) same w))
 
-    pub front_end : {V : T → Type 0} {old new : FirstCome T} (i : ℕ) → length ys ≤ i → ((x : T) → V x → (k : ℕ) × (y : Y) × (at ys k ≡ Some y) × W y x) → Brought p (Front W ys i) old new → Brought p V old new
+    pub front_end : {V : T → Type 0} {old new : FirstCome T} (i : ℕ) → length ys ≤ i → ((x : T) → V x → (k : ℕ) × (y : Y) × (at ys k ≡ Some y) × W k y x) → Brought p (Front W ys i) old new → Brought p V old new
     front_end i all f b = brought_as (λ x v. let h = f x v in let l = at_lt ys h.0 h.1 h.2 in (h.0, h.1, omega arith, h.2, h.3)) b
 
 -- the result of a call that goes on
@@ -154,3 +154,15 @@ fresh_room {T} p l e few =
   where
     none : (k : ℕ) (x : T) → at (listed l) k ≡ Some x → ⊥
     none k x q = let low = at_lt (listed l) k x q in omega (arith, listed_long l, e)
+
+-- a list that others stand before, and one as long
+pub kept_long : {T : Type 0} (xs ys : List T) → ((k : ℕ) (x : T) → at xs k ≡ Some x → at ys k ≡ Some x) → length xs ≤ length ys
+kept_long [] ys h = omega arith
+kept_long (x ∷ xs) [] h = none_some x (h 0 x refl)
+kept_long (x ∷ xs) (y ∷ ys) h = omega (arith, kept_long xs ys (λ k z e. h (suc k) z e))
+
+pub kept_same : {T : Type 0} (xs ys : List T) → ((k : ℕ) (x : T) → at xs k ≡ Some x → at ys k ≡ Some x) → length xs ≡ length ys → xs ≡ ys
+kept_same [] [] h e = refl
+kept_same [] (y ∷ ys) h e = absurd (omega arith)
+kept_same (x ∷ xs) [] h e = absurd (omega arith)
+kept_same (x ∷ xs) (y ∷ ys) h e = ap₂ (λ z zs. z ∷ zs) (sym (some_same y x (h 0 x refl))) (kept_same xs ys (λ k z q. h (suc k) z q) (omega arith))

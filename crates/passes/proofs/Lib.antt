@@ -4,6 +4,7 @@ pub mod Masks
 pub mod Along
 pub mod Coming
 pub mod ComingU
+pub mod ComingR
 pub mod ComingPlans
 pub mod Heads
 pub mod Places

@@ -1,5 +1,5 @@
 -- What the passes R and U let come to a first-come list.
-use Rattle.std.specs.Prelude.{◌≡◌, ℕ, ◌<◌, ◌≤◌, Bool, true, false, List, map, length, Some, Ok, Err, Result, nat_eq, replicate, slice_index_or}
+use Rattle.std.specs.Prelude.{◌≡◌, ℕ, ◌<◌, ◌≤◌, Bool, true, false, ◌&&◌, List, [], map, length, Some, Ok, Err, Result, nat_eq, replicate, slice_index_or}
 use mathlib.Core.List.{Memᴰ}
 use Rattle.definitions.specs.Lists.{at, flat}
 use Rattle.definitions.specs.Systems.{Term, Occurrence, Clause, Equation, System}
@@ -7,10 +7,12 @@ use Rattle.definitions.specs.Passes.{occurs_in, marked, occurrences, reachable, 
 use Rattle.firstcome.specs.declared.FirstCome.{FirstCome}
 use Rattle.firstcome.specs.Coming.{listed}
 use Rattle.system.specs.declared.places.OccurrenceAt.{OccurrenceAt}
-use Rattle.passes.specs.declared.plan.ParameterChange.TheVariants.{Stays}
+use Rattle.passes.specs.declared.plan.ParameterChange.TheVariants.{Stays, Goes}
 use Rattle.passes.specs.declared.plan.EquationChange.TheVariants as equation
+use Rattle.passes.specs.declared.plan.Change.{Change}
 use Rattle.passes.specs.declared.plan.Plan.{Plan}
 use Rattle.passes.specs.declared.plan.Missing.{Missing}
+use Rattle.passes.specs.declared.redundant.Parameter.{Parameter}
 use Rattle.passes.specs.declared.unreachable_equations.EquationNumber.{EquationNumber}
 
 -- the record stands in the list, each stands there once, and each passes the test p
@@ -67,3 +69,49 @@ reached s x = slice_index_or (reachable s) x.index false
 pub record Keeping (q : ℕ → Bool) (P : Plan) : Type 0 where
   pub fold : P.fold ≡ false
   pub each : (i : ℕ) → i < 31 → at P.equations i ≡ Some (record { equation = elim (q i) [ true ↦ equation.Stays | false ↦ equation.Goes ]; parameters = replicate 15 Stays })
+
+-- the same where what is wanted is told by what came: it is wanted by what came before, and passes the test where it is wanted by what does
+abbrev pub Follows : {T : Type 0} → ((T → Type 0) → T → Type 0) → FirstCome T → FirstCome T → Result (Unit {0}) Missing → Type 0
+Follows {T} V old new r = (p : T → Bool) → Room p old → ((x : T) → V (λ y. p y ≡ true) x → p x ≡ true) → Brings p (V (Has (listed old))) old new r
+
+-- R: the parameters of the equation numbered i, of n, that occur in a term, in the guards of clauses, and in what marks
+abbrev pub parameter : ℕ → ℕ → Parameter
+parameter i k = record { equation = i; index = k }
+
+abbrev pub is_parameter : ℕ → ℕ → Parameter → Bool
+is_parameter i k y = nat_eq y.equation i && nat_eq y.index k
+
+abbrev pub Occurring : ℕ → ℕ → Term → Parameter → Type 0
+Occurring i n t x = (k : ℕ) × (k < n) × (occurs_in k t ≡ true) × (x ≡ parameter i k)
+
+abbrev pub Guarding : ℕ → ℕ → List Clause → Parameter → Type 0
+Guarding i n ks x = (c : Clause) × Memᴰ c ks × Occurring i n c.guard x
+
+abbrev pub Marking : ℕ → ℕ → Equation → Parameter → Type 0
+Marking i n e x = (k : ℕ) × (k < n) × (marked e k ≡ true) × (x ≡ parameter i k)
+
+-- those that occur in an argument for one of which H holds, of an occurrence and of occurrences
+abbrev pub Feeding : ℕ → ℕ → Occurrence → (Parameter → Type 0) → Parameter → Type 0
+Feeding i n o H x = (j : ℕ) × (t : Term) × (at o.arguments j ≡ Some t) × H (parameter o.target j) × Occurring i n t x
+
+abbrev pub Pointing : ℕ → ℕ → List Occurrence → (Parameter → Type 0) → Parameter → Type 0
+Pointing i n os H x = (o : Occurrence) × Memᴰ o os × Feeding i n o H x
+
+-- the same of all equations
+abbrev pub Marks : System → Parameter → Type 0
+Marks s x = (i : ℕ) × (e : Equation) × (at s.equations i ≡ Some e) × Marking i (length e.sorts) e x
+
+abbrev pub Points : System → (Parameter → Type 0) → Parameter → Type 0
+Points s H x = (i : ℕ) × (e : Equation) × (at s.equations i ≡ Some e) × Pointing i (length e.sorts) (occurrences e) H x
+
+abbrev pub wanted : System → Parameter → Bool
+wanted s x = slice_index_or (slice_index_or (needed s) x.equation []) x.index false
+
+-- of an equation's parameters those stay that are as told, and the same of all
+pub record Staying (q : ℕ → Bool) (c : Change) : Type 0 where
+  pub equation : c.equation ≡ equation.Stays
+  pub each : (k : ℕ) → k < 15 → at c.parameters k ≡ Some (elim (q k) [ true ↦ Stays | false ↦ Goes ])
+
+pub record Needing (q : ℕ → ℕ → Bool) (P : Plan) : Type 0 where
+  pub fold : P.fold ≡ false
+  pub each : (i : ℕ) → i < 31 → (c : Change) × (at P.equations i ≡ Some c) × Staying (q i) c

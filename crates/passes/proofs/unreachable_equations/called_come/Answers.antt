@@ -14,7 +14,7 @@ use Rattle.passes.specs.Comes.{Found as Sought}
 use Rattle.passes.proofs.unreachable_equations.called_come.Goals as goal
 
 pub loop-clause-init : goal.loop-clause-init
-loop-clause-init g c = λ sc ks short pairs p room pass. front_first p Target ks c.args.list.now room
+loop-clause-init g c = λ sc ks short pairs p room pass. front_first p (λ _. Target) ks c.args.list.now room
 
 pub returns-in_err-occurrences : goal.returns-in_err-occurrences
 returns-in_err-occurrences g c = λ sc ks short pairs p room pass.
@@ -55,7 +55,7 @@ loop-clause-preserved g c = λ sc ks short pairs p room pass.
     let xs = c.as_slice.result.now in
     let l = c.loop-clause.invariant sc ks short pairs p room pass in
     let b = c.in_ok-targets_come.ensures p l.room (λ x h. pass x (target_called ks i k.0 k.1 x (found_target a f xs k.0.occurrences there x h))) in
-    front_next p Target ks i k.0 k.1 l (brought_as p (λ x h. target_found a f xs k.0.occurrences there x h.0 h.1 h.2) b)
+    front_next p (λ _. Target) ks i k.0 k.1 l (brought_as p (λ x h. target_found a f xs k.0.occurrences there x h.0 h.1 h.2) b)
 
 pub returns : goal.returns
 returns g c = λ sc ks short pairs p room pass.
@@ -64,4 +64,4 @@ returns g c = λ sc ks short pairs p room pass.
     let hs = kept_headers c.args.accepted.now.outline.now in
     let i = c.loop-clause.clause-index in
     let long = pairs_long (λ x k. (u : ℕ) × ClauseOf a hs sc f k u x) c.args.clauses.now ks pairs in
-    front_end p Target ks i (omega arith) (called_target ks) (c.loop-clause.invariant sc ks short pairs p room pass)
+    front_end p (λ _. Target) ks i (omega arith) (called_target ks) (c.loop-clause.invariant sc ks short pairs p room pass)

@@ -14,4 +14,4 @@ invariant-loop-clause g l =
     let a = g.G.Algebra.meaning l.accepted.alg.now in
     let f = l.accepted.file.now in
     (c : Scope) (ks : List Clause) → length f ≤ 65536 → Pairs (λ x k. (u : ℕ) × ClauseOf a (kept_headers l.accepted.outline.now) c f k u x) l.clauses ks →
-    (p : EquationNumber → Bool) → Room p l.fn.list → ((x : EquationNumber) → Called ks x → p x ≡ true) → Brought p (Front Target ks l.clause-index) l.fn.list l.list
+    (p : EquationNumber → Bool) → Room p l.fn.list → ((x : EquationNumber) → Called ks x → p x ≡ true) → Brought p (Front (λ _. Target) ks l.clause-index) l.fn.list l.list

@@ -1,4 +1,4 @@
-use Rattle.std.proofs.Common.{◌≡◌, refl, arith}
+use Rattle.std.proofs.Common.{◌≡◌, ℕ, refl, arith}
 use Rattle.system.specs.declared.places.OccurrenceAt.{OccurrenceAt}
 use Rattle.passes.specs.declared.unreachable_equations.EquationNumber.{EquationNumber}
 use Rattle.passes.specs.Comes.{number}
@@ -6,8 +6,8 @@ use Rattle.passes.proofs.Coming.{item_at, front_first, front_next, front_end}
 use Rattle.passes.proofs.ComingU.{number_fits, number_brought}
 use Rattle.passes.proofs.unreachable_equations.targets_come.Goals as goal
 
-abbrev wanted : OccurrenceAt → EquationNumber → Type 0
-wanted o x = x ≡ number o.target
+abbrev wanted : ℕ → OccurrenceAt → EquationNumber → Type 0
+wanted j o x = x ≡ number o.target
 
 pub loop-occurrence-init : goal.loop-occurrence-init
 loop-occurrence-init c = λ p room pass. front_first p wanted c.args.occurrences.now c.args.list.now room

@@ -8,4 +8,4 @@ use Rattle.passes.proofs.unreachable_equations.targets_come.Given as goal
 abbrev pub invariant-loop-occurrence : goal.invariant-loop-occurrence
 invariant-loop-occurrence l =
     (p : EquationNumber → Bool) → Room p l.fn.list → ((x : EquationNumber) → Found l.occurrences x → p x ≡ true) →
-    Brought p (Front (λ (o : OccurrenceAt) (x : EquationNumber). x ≡ number o.target) l.occurrences l.occurrence-index) l.fn.list l.list
+    Brought p (Front (λ _ (o : OccurrenceAt) (x : EquationNumber). x ≡ number o.target) l.occurrences l.occurrence-index) l.fn.list l.list
