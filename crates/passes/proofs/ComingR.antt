@@ -3,7 +3,7 @@ use Rattle.std.proofs.Common.{◌≡◌, ℕ, zero, suc, ◌+◌, ◌*◌, ◌<�
 use Rattle.std.proofs.lemmas.Bool.{eqb-true, eq-eqb, or_left, or_right}
 use mathlib.Core.List.{Memᴰ}
 use native.Mathlib.Decide.{dec_lt}
-use Rattle.definitions.specs.Lists.{at, some}
+use Rattle.definitions.specs.Lists.{at, some, flat}
 use Rattle.definitions.specs.Alg.{Alg}
 use Rattle.definitions.specs.Systems.{Term, Occurrence, Clause, Equation, System}
 use Rattle.definitions.specs.Fits.{SystemFits, HeaderFits, header_of}
@@ -27,7 +27,7 @@ use Rattle.passes.specs.declared.redundant.Parameter.{Parameter}
 use Rattle.passes.specs.Plans.{needing}
 use Rattle.passes.specs.Comes.{Has, Once, Passing, Room, Brought, Occurring, Guarding, Marking, Feeding, Pointing, Marks, Points, Needing, parameter, is_parameter, wanted}
 use Rattle.passes.proofs.ComingPlans.{same_truth}
-use Rattle.passes.proofs.Coming.{come_fits, come_brought, brought_as, brought_then}
+use Rattle.passes.proofs.Coming.{listed_long, come_fits, come_brought, brought_as, brought_then, kept_long, kept_same}
 
 -- equal parameters
 pub parameter_exact : (i k : ℕ) (y : Parameter) → is_parameter i k y ≡ true → y ≡ parameter i k
@@ -87,11 +87,11 @@ module _ (i n : ℕ) (e : Equation) where
       go (inr m) = let q = some_found (λ (c : Clause). occurs_in w.0 c.guard) e.clauses m in inr (q.0, q.1, (w.0, w.1, q.2, w.3))
 
 -- what is fed by more is fed
-pub feeding_up : {H K : Parameter → Type 0} (i n : ℕ) (o : Occurrence) → ((y : Parameter) → H y → K y) → (x : Parameter) → Feeding i n o H x → Feeding i n o K x
-feeding_up i n o f x w = (w.0, w.1, w.2, f (parameter o.target w.0) w.3, w.4)
+pub feeding_up : (H K : Parameter → Type 0) (i n : ℕ) (o : Occurrence) → ((y : Parameter) → H y → K y) → (x : Parameter) → Feeding i n o H x → Feeding i n o K x
+feeding_up H K i n o f x w = (w.0, w.1, w.2, f (parameter o.target w.0) w.3, w.4)
 
-pub pointing_up : {H K : Parameter → Type 0} (i n : ℕ) (os : List Occurrence) → ((y : Parameter) → H y → K y) → (x : Parameter) → Pointing i n os H x → Pointing i n os K x
-pointing_up i n os f x w = (w.0, w.1, feeding_up i n w.0 f x w.2)
+pub pointing_up : (H K : Parameter → Type 0) (i n : ℕ) (os : List Occurrence) → ((y : Parameter) → H y → K y) → (x : Parameter) → Pointing i n os H x → Pointing i n os K x
+pointing_up H K i n os f x w = (w.0, w.1, feeding_up H K i n w.0 f x w.2)
 
 -- what an outline tells of an equation
 pub told_equation : (a : Alg) (f : List ℕ) (s : System) (o : Outline) → Outlined a f s o → (i : ℕ) (t : Told) → at (row o.equations) i ≡ Some t →
@@ -169,3 +169,38 @@ came_parameter u v j ys e h = subst (λ w. Has ys (parameter w j)) e (tested_has
 
 pub not_come : (u v j : ℕ) (ys : List Parameter) → u ≡ v → some (is_parameter u j) ys ≡ false → Has ys (parameter v j) → ⊥
 not_come u v j ys e h m = tested_not (is_parameter u j) (parameter u j) (parameter_exact u j) (parameter_own u j) ys h (subst (λ w. Has ys (parameter w j)) (sym e) m)
+
+-- what points in a clause points in all
+pub clause_points : (H : Parameter → Type 0) (i n : ℕ) (ks : List Clause) (j : ℕ) (k : Clause) → at ks j ≡ Some k → (x : Parameter) → Pointing i n k.occurrences H x → Pointing i n (flat (map (λ (k : Clause). k.occurrences) ks)) H x
+clause_points H i n ks j k e x w = (w.0, flat_has (λ (k : Clause). k.occurrences) (has_mem ks j k e) w.1, w.2)
+
+pub points_clause : (H : Parameter → Type 0) (i n : ℕ) (ks : List Clause) (x : Parameter) → Pointing i n (flat (map (λ (k : Clause). k.occurrences) ks)) H x → (j : ℕ) × (k : Clause) × (at ks j ≡ Some k) × Pointing i n k.occurrences H x
+points_clause H i n ks x w =
+    let (k, mk, mo) = flat_mem_back (λ (k : Clause). k.occurrences) ks w.0 w.1 in
+    let q = mem_has mk in
+    (q.0, k, q.1, (w.0, mo, w.2))
+
+-- a round that brought nothing is the last
+pub round_last : (s : System) (p : Parameter → Bool) (old mid new : FirstCome Parameter) → Brought p (λ x. ⊥) old mid → Brought p (Points s (Has (listed mid))) mid new → new.len ≡ mid.len → Brought p (Points s (Has (listed new))) old new
+round_last s p old mid new b c e =
+    let same : listed mid ≡ listed new = kept_same (listed mid) (listed new) c.kept (listed_long mid ∙ sym e ∙ sym (listed_long new)) in
+    record {
+      room = c.room;
+      kept = λ k x q. c.kept k x (b.kept k x q);
+      came = λ x w. c.came x (subst (λ ys. Points s (Has ys) x) (sym same) w);
+    }
+
+longer : (i a b : ℕ) → (a ≡ b → ⊥) → a ≤ b → i ≤ a → i + 1 ≤ b
+longer i a b d l k = go (dec_lt a b)
+  where
+    go : Dec (a < b) → i + 1 ≤ b
+    go (yes m) = omega arith
+    go (no m) = absurd (d (omega arith))
+
+-- and one that brought more made the list longer
+pub round_more : (s : System) (p : Parameter → Bool) (i : ℕ) (old mid new : FirstCome Parameter) → Brought p (λ x. ⊥) old mid × (i ≤ length (listed mid)) → Brought p (Points s (Has (listed mid))) mid new → (new.len ≡ mid.len → ⊥) →
+    Brought p (λ x. ⊥) old new × (i + 1 ≤ length (listed new))
+round_more s p i old mid new b c d = (
+  record { room = c.room; kept = λ k x q. c.kept k x (b.0.kept k x q); came = λ x w. absurd w },
+  longer i (length (listed mid)) (length (listed new)) (λ q. d (sym (listed_long new) ∙ sym q ∙ listed_long mid)) (kept_long (listed mid) (listed new) c.kept) b.1,
+)

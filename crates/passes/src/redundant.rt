@@ -198,7 +198,7 @@ fn rounds_come<G: Algebra>(
     ensures { (s : System) → length accepted.now.file.now ≤ 65536 → Outlined (G.meaning accepted.now.alg.now) accepted.now.file.now s accepted.now.outline.now → SystemFits (G.meaning accepted.now.alg.now) s → Room (wanted s) list.old → Brings (wanted s) (Points s (Has (came list.new))) list.old list.new result }
 {
     // Each round but the last brings one of at most 465 parameters.
-    for _round in 0..466 {
+    for _round in 0..466usize {
         let before = list.len;
         pointing_come(accepted, list)?;
         if list.len == before {

@@ -1,4 +1,5 @@
 use Rattle.std.proofs.Common.{◌≡◌, ℕ, ◌+◌, true, length, get_or, Some, sym, ap, ◌∙◌, subst, arith}
+use Rattle.std.proofs.lemmas.List.{get_or_read}
 use Rattle.definitions.specs.ReadSystem.{greatest_depth}
 use Rattle.theorems.proofs.Listing.{at_some}
 use Rattle.terms.specs.Shapes.{standing}
@@ -8,7 +9,7 @@ use Rattle.firstcome.specs.Coming.{listed as came}
 use Rattle.passes.specs.declared.redundant.Parameter.{Parameter}
 use Rattle.passes.specs.Comes.{Has, Brought, Occurring, parameter, is_parameter}
 use Rattle.passes.proofs.ComingPlans.{place_some}
-use Rattle.passes.proofs.Coming.{Front, item_is, brought_none, brought_as, front_first, front_next, front_end}
+use Rattle.passes.proofs.Coming.{Front, brought_none, brought_as, front_first, front_next, front_end}
 use Rattle.passes.proofs.ComingR.{Fed, came_parameter, not_come}
 use Rattle.passes.proofs.redundant.feeding_come.Goals as goal
 use Rattle.passes.proofs.redundant.feeding_come.Goals.{then-is_some+in_ok-occurring_come, else-is_some}
@@ -30,12 +31,11 @@ returns-in_err-occurring_come g c = λ o q of p room pass.
     let rows = c.as_slice-argument-items.ensures in
     let long = ap length rows in
     let t = at_some o.arguments j (omega (arith, of.count)) in
-    let place : c.argument-item.result ≡ get_or (listed c.args.occurrence.now.arguments) j 0 = get_or_read xs j 0 c.argument-item.result c.loop-index-test.true c.argument-item.is ∙ ap (λ ps. get_or ps j 0) rows in
-    let stands = ap (standing a greatest_depth f) place ∙ of.arguments j t.0 t.1 in
+    let stands = ap (λ ps. standing a greatest_depth f (get_or ps j 0)) rows ∙ of.arguments j t.0 t.1 in
     let l = c.loop-index.invariant o q of p room pass in
     let same = is_parameter c.args.occurrence.now.target j in
     let asked = place_some same (came c.loop-index.list) c.find.result c.find.ensures in
-    let has = came_parameter c.args.occurrence.now.target o.target j (came c.loop-index.list) of.target (sym asked ∙ c.is_some.ensures ∙ c.if-is_some.true) in
+    let has = came_parameter c.args.occurrence.now.target o.target j (came c.loop-index.list) of.target (sym asked ∙ sym c.is_some.ensures ∙ c.if-is_some.true) in
     absurd (c.in_err-occurring_come.ensures t.0 stands p l.room (λ x w. pass x (j, t.0, t.1, l.room.pass has.0 (parameter o.target j) has.1, w)))
 
 pub loop-index-preserved : goal.loop-index-preserved
@@ -49,8 +49,7 @@ loop-index-preserved g c = λ o q of p room pass.
     let rows = c.as_slice-argument-items.ensures in
     let long = ap length rows in
     let t = at_some o.arguments j (omega (arith, of.count)) in
-    let place : c.argument-item.result ≡ get_or (listed c.args.occurrence.now.arguments) j 0 = get_or_read xs j 0 c.argument-item.result c.loop-index-test.true c.argument-item.is ∙ ap (λ ps. get_or ps j 0) rows in
-    let stands = ap (standing a greatest_depth f) place ∙ of.arguments j t.0 t.1 in
+    let stands = ap (λ ps. standing a greatest_depth f (get_or ps j 0)) rows ∙ of.arguments j t.0 t.1 in
     let l = c.loop-index.invariant o q of p room pass in
     let same = is_parameter c.args.occurrence.now.target j in
     let asked = place_some same (came c.loop-index.list) c.find.result c.find.ensures in
@@ -58,11 +57,11 @@ loop-index-preserved g c = λ o q of p room pass.
     let goal_at = λ (new : FirstCome Parameter). Brought p (Front W o.arguments (j + 1)) c.args.list.now new in
     elim c.if-is_some.branch [
       | then-is_some+in_ok-occurring_come w ↦
-          let has = came_parameter c.args.occurrence.now.target o.target j (came c.loop-index.list) of.target (sym asked ∙ c.is_some.ensures ∙ w.if-is_some.true) in
+          let has = came_parameter c.args.occurrence.now.target o.target j (came c.loop-index.list) of.target (sym asked ∙ sym c.is_some.ensures ∙ w.if-is_some.true) in
           let b = w.in_ok-occurring_come.ensures t.0 stands p l.room (λ x w. pass x (j, t.0, t.1, l.room.pass has.0 (parameter o.target j) has.1, w)) in
           subst goal_at (sym w.list-is) (front_next p W o.arguments j t.0 t.1 l (brought_as p (λ x h. h.1) b))
       | else-is_some w ↦
-          let un = not_come c.args.occurrence.now.target o.target j (came c.loop-index.list) of.target (sym asked ∙ c.is_some.ensures ∙ w.if-is_some.false) in
+          let un = not_come c.args.occurrence.now.target o.target j (came c.loop-index.list) of.target (sym asked ∙ sym c.is_some.ensures ∙ w.if-is_some.false) in
           subst goal_at (sym w.list-is) (front_next p W o.arguments j t.0 t.1 l (brought_none p c.loop-index.list l.room (λ x h. un (h.0.0, l.kept h.0.0 (parameter o.target j) h.0.1))))
     ]
 
