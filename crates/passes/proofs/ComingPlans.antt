@@ -9,7 +9,7 @@ use Rattle.definitions.specs.Fits.{SystemFits}
 use Rattle.theorems.proofs.Sounds.{sound_system}
 use Rattle.system.specs.declared.outline.Outline.{Outline}
 use Rattle.system.specs.Whole.{Outlined}
-use Rattle.theorems.proofs.Listing.{some_same, get_or_some}
+use Rattle.theorems.proofs.Listing.{some_same, at_some, get_or_some}
 use Rattle.firstcome.specs.Coming.{place_from, place_of}
 
 pub all_at : {A : Type 0} (n i : ℕ) (x : A) → i < n → at (replicate n x) i ≡ Some x
@@ -68,6 +68,20 @@ module _ {A : Type 0} (f : ℕ → A) (d : A) (n : ℕ) where
         go j l m (no k) =
             let same : j ≡ i = omega arith in
             ap (at xs) same ∙ h.left i (omega arith) low ∙ ap Some (e ∙ ap f (sym same))
+
+-- each of the first i is as told
+abbrev pub Each : {A : Type 0} → (ℕ → A → Type 0) → ℕ → List A → Type 0
+Each {A} Q i xs = (j : ℕ) → j < i → (x : A) × (at xs j ≡ Some x) × Q j x
+
+pub each_next : {A : Type 0} (Q : ℕ → A → Type 0) (i : ℕ) (xs : List A) (x : A) → i < length xs → Each Q i xs → Q i x → Each Q (i + 1) (set xs i x)
+each_next {A} Q i xs x low h q j l = go (dec_lt j i)
+  where
+    go : Dec (j < i) → (y : A) × (at (set xs i x) j ≡ Some y) × Q j y
+    go (yes m) = let r = h j m in (r.0, set_there xs i j x (λ e. absurd (omega arith)) ∙ r.1, r.2)
+    go (no m) =
+        let same : j ≡ i = omega arith in
+        let was = at_some xs i low in
+        (x, ap (at (set xs i x)) same ∙ set_here xs i was.0 x was.1, subst (λ k. Q k x) (sym same) q)
 
 -- a place is found where one of the list is as told
 placed_some : {T : Type 0} (p : T → Bool) (xs : List T) (k : ℕ) → is_some (place_from k p xs) ≡ some p xs

@@ -22,6 +22,8 @@ use Rattle.system.specs.declared.outline.Equation.{Equation as Told}
 use Rattle.system.specs.declared.outline.Outline.{Outline}
 use Rattle.system.specs.Files.{kept_header}
 use Rattle.system.specs.Whole.{kept_headers, Outlined}
+use Rattle.passes.specs.declared.plan.ParameterChange.{ParameterChange}
+use Rattle.passes.specs.declared.plan.ParameterChange.TheVariants.{Stays, Goes}
 use Rattle.passes.specs.declared.plan.Plan.{Plan}
 use Rattle.passes.specs.declared.redundant.Parameter.{Parameter}
 use Rattle.passes.specs.Plans.{needing}
@@ -204,3 +206,33 @@ round_more s p i old mid new b c d = (
   record { room = c.room; kept = λ k x q. c.kept k x (b.0.kept k x q); came = λ x w. absurd w },
   longer i (length (listed mid)) (length (listed new)) (λ q. d (sym (listed_long new) ∙ sym q ∙ listed_long mid)) (kept_long (listed mid) (listed new) c.kept) b.1,
 )
+
+-- a parameter stays or goes
+abbrev pub stayed : Bool → ParameterChange
+stayed b = elim b [ true ↦ Stays | false ↦ Goes ]
+
+-- the plan that keeps what came keeps what is wanted
+module _ (a : Alg) (s : System) (P : Plan) {old l : FirstCome Parameter} (fit : SystemFits a s) (b : Brought (wanted s) (λ x. wanted s x ≡ true) old l) where
+  same_wanted : (i k : ℕ) → some (is_parameter i k) (listed l) ≡ wanted s (parameter i k)
+  same_wanted i k =
+      same_truth (some (is_parameter i k) (listed l)) (wanted s (parameter i k))
+      (λ h. let q = tested_has (is_parameter i k) (parameter i k) (parameter_exact i k) (parameter_own i k) (listed l) h in b.room.pass q.0 (parameter i k) q.1)
+      (λ h. go (some (is_parameter i k) (listed l)) refl (b.came (parameter i k) h))
+    where
+      go : (t : Bool) → some (is_parameter i k) (listed l) ≡ t → Has (listed l) (parameter i k) → t ≡ true
+      go true e q = refl
+      go false e q = absurd (tested_not (is_parameter i k) (parameter i k) (parameter_exact i k) (parameter_own i k) (listed l) e q)
+
+  pub needing_wanted : Needing (λ i k. some (is_parameter i k) (listed l)) P → needing s P
+  needing_wanted h =
+      record {
+        fold = h.fold;
+        each_equation = λ i e is.
+            let low = at_lt s.equations i e is in
+            let few = fit.few in
+            let r = h.each i (omega arith) in
+            let m = few_sorts a s fit i e is in (
+              r.0,
+              (r.1, record { equation = r.2.equation; parameters = λ k l. r.2.each k (omega arith) ∙ ap (λ b. Some (stayed b)) (same_wanted i k) }),
+            );
+      }

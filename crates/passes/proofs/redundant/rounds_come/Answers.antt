@@ -16,12 +16,12 @@ returns-in_err-pointing_come g c = λ s short out fit room.
 pub returns-then-list-before : goal.returns-then-list-before
 returns-then-list-before g c = λ s short out fit room.
     let l = c.loop-round.invariant s short out fit room in
-    round_last s (wanted s) c.args.list.now c.loop-round.list c.pointing_come.new.list l.0 (c.in_ok-pointing_come.ensures s short out (wanted s) l.0.room (points_wanted s)) ?
+    round_last s (wanted s) c.args.list.now c.loop-round.list c.pointing_come.new.list l.0 (c.in_ok-pointing_come.ensures s short out (wanted s) l.0.room (points_wanted s)) (omega arith)
 
 pub loop-round-preserved : goal.loop-round-preserved
 loop-round-preserved g c = λ s short out fit room.
     let l = c.loop-round.invariant s short out fit room in
-    round_more s (wanted s) c.loop-round._round c.args.list.now c.loop-round.list c.pointing_come.new.list l (c.in_ok-pointing_come.ensures s short out (wanted s) l.0.room (points_wanted s)) ?
+    round_more s (wanted s) c.loop-round._round c.args.list.now c.loop-round.list c.pointing_come.new.list l (c.in_ok-pointing_come.ensures s short out (wanted s) l.0.room (points_wanted s)) (λ q. omega arith)
 
 pub returns : goal.returns
 returns g c = λ s short out fit room.
