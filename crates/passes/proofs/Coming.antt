@@ -1,5 +1,5 @@
 -- What came to a first-come list: one record more, and loops of them.
-use Rattle.std.proofs.Common.{◌≡◌, ℕ, zero, suc, ◌+◌, ◌<◌, ◌≤◌, ◌⊎◌, inl, inr, Bool, true, false, List, [], ◌∷◌, ◌++◌, length, take, get_or, Some, None, Option, Ok, Err, Result, sym, refl, ap, ap₂, ◌∙◌, subst, add-one, arith}
+use Rattle.std.proofs.Common.{◌≡◌, ℕ, zero, suc, ◌+◌, ◌<◌, ◌≤◌, ◌⊎◌, inl, inr, Bool, true, false, List, [], ◌∷◌, ◌++◌, length, get_or, Some, None, Ok, Err, Result, sym, refl, ap, ap₂, ◌∙◌, subst, arith}
 use Rattle.std.proofs.lemmas.List.{length-take-le, length-append}
 use native.Mathlib.Decide.{dec_lt}
 use Rattle.definitions.specs.Lists.{at, some}
@@ -7,7 +7,7 @@ use Rattle.theorems.proofs.Listing.{none_some, some_same, at_lt, at_some, get_or
 use Rattle.theorems.proofs.Numbers.{at_left, at_last, at_snoc}
 use Rattle.theorems.proofs.Gathered.{tested_has, tested_not}
 use Rattle.firstcome.specs.declared.FirstCome.{FirstCome}
-use Rattle.firstcome.specs.Coming.{listed, Comes, NoPlace}
+use Rattle.firstcome.specs.Coming.{listed, Comes}
 use Rattle.system.specs.Walks.{Pairs}
 use Rattle.passes.specs.declared.plan.Missing.{Missing}
 use Rattle.passes.specs.Comes.{Has, Once, Passing, Room, Brought, Brings}
@@ -104,13 +104,6 @@ module _ {T : Type 0} (p : T → Bool) where
 
     pub front_end : {V : T → Type 0} {old new : FirstCome T} (i : ℕ) → length ys ≤ i → ((x : T) → V x → (k : ℕ) × (y : Y) × (at ys k ≡ Some y) × W k y x) → Brought p (Front W ys i) old new → Brought p V old new
     front_end i all f b = brought_as (λ x v. let h = f x v in let l = at_lt ys h.0 h.1 h.2 in (h.0, h.1, omega arith, h.2, h.3)) b
-
--- the result of a call that goes on
-pub no_error : {T : Type 0} (p : T → Bool) (W : T → Type 0) (old new : FirstCome T) (r : Result (Unit {0}) Missing) (e : Missing) → r ≡ Err e → Brings p W old new r → ⊥
-no_error p W old new r e q b = subst (Brings p W old new) q b
-
-pub gone_on : {T : Type 0} (p : T → Bool) (W : T → Type 0) (old new : FirstCome T) (r : Result (Unit {0}) Missing) (u : Unit {0}) → r ≡ Ok u → Brings p W old new r → Brought p W old new
-gone_on p W old new r u q b = subst (Brings p W old new) q b
 
 -- the item of a loop over a slice
 pub item_at : {A : Type 0} (xs : List A) (i : ℕ) (x : A) → i < length xs → x ≡ get_or xs i x → at xs i ≡ Some x

@@ -1,5 +1,5 @@
 -- Plans that are made of what came.
-use Rattle.std.proofs.Common.{◌≡◌, ℕ, zero, suc, ◌+◌, ◌<◌, ◌≤◌, Bool, true, false, List, [], ◌∷◌, length, set, get_or, replicate, Some, None, Option, sym, refl, ap, ◌∙◌, subst, arith}
+use Rattle.std.proofs.Common.{◌≡◌, ℕ, zero, suc, ◌+◌, ◌<◌, ◌≤◌, Bool, true, false, List, [], ◌∷◌, length, set, get_or, replicate, Some, Option, sym, refl, ap, ◌∙◌, subst, arith}
 use native.Mathlib.Decide.{dec_lt}
 use Rattle.std.specs.Option.{is_some}
 use Rattle.definitions.specs.Lists.{at, some}
@@ -9,7 +9,7 @@ use Rattle.definitions.specs.Fits.{SystemFits}
 use Rattle.theorems.proofs.Sounds.{sound_system}
 use Rattle.system.specs.declared.outline.Outline.{Outline}
 use Rattle.system.specs.Whole.{Outlined}
-use Rattle.theorems.proofs.Listing.{some_same, at_some, get_or_some}
+use Rattle.theorems.proofs.Listing.{at_some, get_or_some}
 use Rattle.firstcome.specs.Coming.{place_from, place_of}
 
 pub all_at : {A : Type 0} (n i : ℕ) (x : A) → i < n → at (replicate n x) i ≡ Some x

@@ -1,5 +1,5 @@
 -- The parameters that come to the list of R.
-use Rattle.std.proofs.Common.{◌≡◌, ℕ, zero, suc, ◌+◌, ◌*◌, ◌<◌, ◌≤◌, ◌⊎◌, inl, inr, Bool, true, false, ◌&&◌, eqb, List, [], map, replicate, length, get_or, Some, None, Option, sym, refl, ap, ap₂, ◌∙◌, subst, arith}
+use Rattle.std.proofs.Common.{◌≡◌, ℕ, ◌+◌, ◌*◌, ◌<◌, ◌≤◌, ◌⊎◌, inl, inr, Bool, true, false, ◌&&◌, eqb, List, map, length, Some, None, Option, sym, refl, ap, ap₂, ◌∙◌, subst, arith}
 use Rattle.std.proofs.lemmas.Bool.{eqb-true, eq-eqb, or_left, or_right}
 use mathlib.Core.List.{Memᴰ}
 use native.Mathlib.Decide.{dec_lt}
@@ -8,7 +8,7 @@ use Rattle.definitions.specs.Alg.{Alg}
 use Rattle.definitions.specs.Systems.{Term, Occurrence, Clause, Equation, System}
 use Rattle.definitions.specs.Fits.{SystemFits, HeaderFits, header_of}
 use Rattle.definitions.specs.Passes.{occurs_in, marked, occurrences}
-use Rattle.definitions.specs.Reach.{ReachesMark, is_marked, leads_on}
+use Rattle.definitions.specs.Reach.{is_marked, leads_on}
 use Rattle.theorems.proofs.Listing.{some_same, at_lt, at_some, every_at, at_mapped, and_left, and_right}
 use Rattle.theorems.proofs.Reaching.{reaches_mark, some_mem, some_found, or_cases, flat_mem_back}
 use Rattle.theorems.proofs.Gathered.{mem_has, has_mem, flat_has, reaching_in, needed_there, coded_few, tested_has, tested_not}
@@ -16,7 +16,6 @@ use Rattle.firstcome.specs.declared.FirstCome.{FirstCome}
 use Rattle.firstcome.specs.Coming.{listed, Comes}
 use Rattle.definitions.specs.Reading.{next}
 use Rattle.definitions.specs.ReadSystem.{Header, read_body}
-use Rattle.rows.specs.Listed.{listed_within}
 use Rattle.rows.specs.Listed.{listed as row}
 use Rattle.system.specs.declared.outline.Equation.{Equation as Told}
 use Rattle.system.specs.declared.outline.Outline.{Outline}
@@ -32,10 +31,10 @@ use Rattle.passes.proofs.ComingPlans.{same_truth}
 use Rattle.passes.proofs.Coming.{listed_long, come_fits, come_brought, brought_as, brought_then, kept_long, kept_same}
 
 -- equal parameters
-pub parameter_exact : (i k : ℕ) (y : Parameter) → is_parameter i k y ≡ true → y ≡ parameter i k
+parameter_exact : (i k : ℕ) (y : Parameter) → is_parameter i k y ≡ true → y ≡ parameter i k
 parameter_exact i k y h = ap₂ parameter (eqb-true y.equation i (and_left (eqb y.equation i) (eqb y.index k) h)) (eqb-true y.index k (and_right (eqb y.equation i) (eqb y.index k) h))
 
-pub parameter_own : (i k : ℕ) → is_parameter i k (parameter i k) ≡ true
+parameter_own : (i k : ℕ) → is_parameter i k (parameter i k) ≡ true
 parameter_own i k = ap₂ (λ p q. p && q) (eq-eqb i i refl) (eq-eqb k k refl)
 
 -- a parameter comes
@@ -137,7 +136,7 @@ all_wanted s {new = new} b c =
     feed i k e o n t p l m there occurs h = c.came (parameter i k) (i, e, p, (o, m, (n, t, there, h, (k, l, occurs, refl))))
 
 -- no more are wanted than there are places for
-pub few_sorts : (a : Alg) (s : System) → SystemFits a s → (i : ℕ) (e : Equation) → at s.equations i ≡ Some e → length e.sorts < 16
+few_sorts : (a : Alg) (s : System) → SystemFits a s → (i : ℕ) (e : Equation) → at s.equations i ≡ Some e → length e.sorts < 16
 few_sorts a s fit i e is = (every_at (HeaderFits a) (map header_of s.equations) i (header_of e) (at_mapped header_of s.equations i e is) fit.headers).few
 
 pub few_wanted : (a : Alg) (s : System) → SystemFits a s → (xs : List Parameter) → Once xs → Passing (wanted s) xs → length xs ≤ 465

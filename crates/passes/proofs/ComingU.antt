@@ -1,5 +1,5 @@
 -- The equations that come to the list of U.
-use Rattle.std.proofs.Common.{◌≡◌, ℕ, ◌+◌, ◌<◌, ◌≤◌, ◌⊎◌, inl, inr, Bool, true, false, eqb, List, map, replicate, length, get_or, Some, None, Option, sym, refl, ap, ◌∙◌, subst, arith}
+use Rattle.std.proofs.Common.{◌≡◌, ℕ, ◌+◌, ◌<◌, ◌≤◌, ◌⊎◌, inl, inr, Bool, true, false, List, map, replicate, length, Some, None, Option, sym, refl, ap, ◌∙◌, subst, arith}
 use Rattle.std.proofs.lemmas.Bool.{eqb-true, eq-eqb}
 use mathlib.Core.List.{Memᴰ}
 use native.Mathlib.Decide.{dec_lt}
@@ -24,7 +24,7 @@ use Rattle.passes.specs.declared.plan.EquationChange.TheVariants as equation
 use Rattle.passes.specs.declared.plan.Change.{Change}
 use Rattle.passes.specs.declared.plan.Plan.{Plan}
 use Rattle.passes.specs.Plans.{keeping}
-use Rattle.passes.specs.Comes.{Has, Once, Passing, Room, Brought, Found, Called, Led, Keeping, reached, number, is_number}
+use Rattle.passes.specs.Comes.{Has, Once, Passing, Room, Brought, Targets, Called, Led, Keeping, reached, number, is_number}
 use Rattle.passes.proofs.ComingPlans.{all_at, same_truth}
 use Rattle.passes.proofs.Coming.{come_fits, come_brought, brought_as, brought_then, pair_at, pair_back}
 
@@ -42,12 +42,12 @@ number_brought {p} i old new r k e room ok h =
 
 -- the targets that are found are those of the occurrences
 module _ (a : Alg) (f : List ℕ) (xs : List OccurrenceAt) (os : List Occurrence) (pairs : Pairs (λ y o. (u : ℕ) × OccurrenceOf a f o u y) xs os) where
-  pub found_target : (x : EquationNumber) → Found xs x → (o : Occurrence) × (Memᴰ o os) × (x ≡ number o.target)
+  pub found_target : (x : EquationNumber) → Targets xs x → (o : Occurrence) × (Memᴰ o os) × (x ≡ number o.target)
   found_target x h =
       let q = pair_at (λ y o. (u : ℕ) × OccurrenceOf a f o u y) xs os h.0 h.1 pairs h.2 in
       (q.0, has_mem os h.0 q.0 q.1, h.3 ∙ ap number q.2.1.target)
 
-  pub target_found : (x : EquationNumber) (o : Occurrence) → Memᴰ o os → x ≡ number o.target → Found xs x
+  pub target_found : (x : EquationNumber) (o : Occurrence) → Memᴰ o os → x ≡ number o.target → Targets xs x
   target_found x o m e =
       let h = mem_has m in
       let q = pair_back (λ y o. (u : ℕ) × OccurrenceOf a f o u y) xs os h.0 o pairs h.1 in

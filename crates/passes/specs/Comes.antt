@@ -15,7 +15,7 @@ use Rattle.passes.specs.declared.plan.Missing.{Missing}
 use Rattle.passes.specs.declared.redundant.Parameter.{Parameter}
 use Rattle.passes.specs.declared.unreachable_equations.EquationNumber.{EquationNumber}
 
--- the record stands in the list, each stands there once, and each passes the test p
+-- a record stands in a list; each stands there once; each passes a test
 abbrev pub Has : {T : Type 0} → List T → T → Type 0
 Has xs x = (k : ℕ) × (at xs k ≡ Some x)
 
@@ -25,7 +25,7 @@ Once {T} xs = (i j : ℕ) (x : T) → at xs i ≡ Some x → at xs j ≡ Some x 
 abbrev pub Passing : {T : Type 0} → (T → Bool) → List T → Type 0
 Passing {T} p xs = (k : ℕ) (x : T) → at xs k ≡ Some x → p x ≡ true
 
--- what came passes the test, each record once, and there is room for all that pass it
+-- what came passes the test and came once, and there are places for all that pass it
 pub record Room {T : Type 0} (p : T → Bool) (l : FirstCome T) : Type 0 where
   pub once : Once (listed l)
   pub pass : Passing p (listed l)
@@ -41,19 +41,24 @@ abbrev pub Brings : {T : Type 0} → (T → Bool) → (T → Type 0) → FirstCo
 Brings p W old new (Ok _) = Brought p W old new
 Brings p W old new (Err _) = ⊥
 
--- whatever test the wanted pass, there is room for them, and they came
+-- whatever test what came and what is wanted pass, none is refused, and what is wanted came
 abbrev pub Gathers : {T : Type 0} → (T → Type 0) → FirstCome T → FirstCome T → Result (Unit {0}) Missing → Type 0
 Gathers {T} W old new r = (p : T → Bool) → Room p old → ((x : T) → W x → p x ≡ true) → Brings p W old new r
 
--- U: the equations that are targets, of occurrences that are found, of those of clauses, and of an equation's
+-- the same where what is wanted hangs on which records have a property: by those that pass the test it passes, and by those that came before it came
+abbrev pub Follows : {T : Type 0} → ((T → Type 0) → T → Type 0) → FirstCome T → FirstCome T → Result (Unit {0}) Missing → Type 0
+Follows {T} V old new r = (p : T → Bool) → Room p old → ((x : T) → V (λ y. p y ≡ true) x → p x ≡ true) → Brings p (V (Has (listed old))) old new r
+
+-- U: an equation by its number
 abbrev pub number : ℕ → EquationNumber
 number i = record { index = i }
 
 abbrev pub is_number : ℕ → EquationNumber → Bool
 is_number i y = nat_eq y.index i
 
-abbrev pub Found : List OccurrenceAt → EquationNumber → Type 0
-Found xs x = (k : ℕ) × (o : OccurrenceAt) × (at xs k ≡ Some o) × (x ≡ number o.target)
+-- the targets of occurrences that are found, and of the occurrences of clauses
+abbrev pub Targets : List OccurrenceAt → EquationNumber → Type 0
+Targets xs x = (k : ℕ) × (o : OccurrenceAt) × (at xs k ≡ Some o) × (x ≡ number o.target)
 
 abbrev pub Called : List Clause → EquationNumber → Type 0
 Called ks x = (o : Occurrence) × (Memᴰ o (flat (map (λ (k : Clause). k.occurrences) ks))) × (x ≡ number o.target)
@@ -62,6 +67,7 @@ Called ks x = (o : Occurrence) × (Memᴰ o (flat (map (λ (k : Clause). k.occur
 abbrev pub Led : System → List EquationNumber → ℕ → EquationNumber → Type 0
 Led s ys n x = (j : ℕ) × (y : EquationNumber) × (e : Equation) × (j < n) × (at ys j ≡ Some y) × (at s.equations y.index ≡ Some e) × Called e.clauses x
 
+-- whether it is reached
 abbrev pub reached : System → EquationNumber → Bool
 reached s x = slice_index_or (reachable s) x.index false
 
@@ -70,17 +76,14 @@ pub record Keeping (q : ℕ → Bool) (P : Plan) : Type 0 where
   pub fold : P.fold ≡ false
   pub each : (i : ℕ) → i < 31 → at P.equations i ≡ Some (record { equation = elim (q i) [ true ↦ equation.Stays | false ↦ equation.Goes ]; parameters = replicate 15 Stays })
 
--- the same where what is wanted is told by what came: it is wanted by what came before, and passes the test where it is wanted by what does
-abbrev pub Follows : {T : Type 0} → ((T → Type 0) → T → Type 0) → FirstCome T → FirstCome T → Result (Unit {0}) Missing → Type 0
-Follows {T} V old new r = (p : T → Bool) → Room p old → ((x : T) → V (λ y. p y ≡ true) x → p x ≡ true) → Brings p (V (Has (listed old))) old new r
-
--- R: the parameters of the equation numbered i, of n, that occur in a term, in the guards of clauses, and in what marks
+-- R: a parameter by its equation's number and its own
 abbrev pub parameter : ℕ → ℕ → Parameter
 parameter i k = record { equation = i; index = k }
 
 abbrev pub is_parameter : ℕ → ℕ → Parameter → Bool
 is_parameter i k y = nat_eq y.equation i && nat_eq y.index k
 
+-- the parameters of the equation numbered i, which has n: those that occur in a term, those in the guards of clauses, and the marked
 abbrev pub Occurring : ℕ → ℕ → Term → Parameter → Type 0
 Occurring i n t x = (k : ℕ) × (k < n) × (occurs_in k t ≡ true) × (x ≡ parameter i k)
 
@@ -104,6 +107,7 @@ Marks s x = (i : ℕ) × (e : Equation) × (at s.equations i ≡ Some e) × Mark
 abbrev pub Points : System → (Parameter → Type 0) → Parameter → Type 0
 Points s H x = (i : ℕ) × (e : Equation) × (at s.equations i ≡ Some e) × Pointing i (length e.sorts) (occurrences e) H x
 
+-- whether it reaches a mark
 abbrev pub wanted : System → Parameter → Bool
 wanted s x = slice_index_or (slice_index_or (needed s) x.equation []) x.index false
 

@@ -111,7 +111,7 @@ fn marked_come<G: Algebra>(
     Ok(())
 }
 
-// The parameters that occur in an argument for one that came come.
+// The parameters that occur in an argument of the occurrence for one that came come.
 fn feeding_come<G: Algebra>(
     accepted: &Accepted<G>,
     numbered: &Numbered,
@@ -132,7 +132,7 @@ fn feeding_come<G: Algebra>(
     Ok(())
 }
 
-// The same for occurrences.
+// The same for each of the occurrences.
 fn occurrences_feed<G: Algebra>(
     accepted: &Accepted<G>,
     numbered: &Numbered,
@@ -147,7 +147,7 @@ fn occurrences_feed<G: Algebra>(
     Ok(())
 }
 
-// The same for those of clauses.
+// The same for the occurrences of each clause.
 fn clauses_feed<G: Algebra>(
     accepted: &Accepted<G>,
     numbered: &Numbered,
@@ -163,7 +163,7 @@ fn clauses_feed<G: Algebra>(
     Ok(())
 }
 
-// The same for those of an equation.
+// The same for the occurrences of the equation.
 fn equation_feeds<G: Algebra>(
     accepted: &Accepted<G>,
     numbered: &Numbered,
@@ -176,7 +176,7 @@ fn equation_feeds<G: Algebra>(
     clauses_feed(accepted, numbered, clauses.as_slice(), list)
 }
 
-// The same for those of all equations.
+// The same for the occurrences of every equation.
 fn pointing_come<G: Algebra>(
     accepted: &Accepted<G>,
     list: &mut FirstCome<Parameter>,
@@ -190,14 +190,14 @@ fn pointing_come<G: Algebra>(
     Ok(())
 }
 
-// Rounds, until one brings nothing.
+// The parameters that point to one that came come, in rounds until one brings nothing.
 fn rounds_come<G: Algebra>(
     accepted: &Accepted<G>,
     list: &mut FirstCome<Parameter>,
 ) -> Result<(), Missing>
     ensures { (s : System) → length accepted.now.file.now ≤ 65536 → Outlined (G.meaning accepted.now.alg.now) accepted.now.file.now s accepted.now.outline.now → SystemFits (G.meaning accepted.now.alg.now) s → Room (wanted s) list.old → Brings (wanted s) (Points s (Has (came list.new))) list.old list.new result }
 {
-    // Each round but the last brings one of at most 465 parameters.
+    // Each round but the last brings one of at most 465 parameters, so one of 466 is the last.
     for _round in 0..466usize {
         let before = list.len;
         pointing_come(accepted, list)?;

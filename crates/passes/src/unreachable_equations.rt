@@ -13,7 +13,7 @@ ghost use Rattle.system.specs.Whole.{kept_headers, Outlined};
 ghost use Rattle.system.specs.Walks.{ClauseOf, Pairs};
 ghost use Rattle.passes.specs.Fronts.{Fronts};
 ghost use Rattle.passes.specs.Plans.{keeping, Planning};
-ghost use Rattle.passes.specs.Comes.{Brings, Called, Found, Gathers, Keeping, Led, Room, is_number, reached};
+ghost use Rattle.passes.specs.Comes.{Brings, Called, Targets, Gathers, Keeping, Led, Room, is_number, reached};
 
 use crate::Pass;
 use crate::plan::{EquationChange, Missing, Plan};
@@ -38,7 +38,7 @@ fn targets_come(
     occurrences: &[OccurrenceAt],
     list: &mut FirstCome<EquationNumber>,
 ) -> Result<(), Missing>
-    ensures { Gathers (Found occurrences.now) list.old list.new result }
+    ensures { Gathers (Targets occurrences.now) list.old list.new result }
 {
     for occurrence in occurrences {
         let target = EquationNumber {

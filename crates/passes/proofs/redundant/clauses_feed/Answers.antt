@@ -1,6 +1,5 @@
 use Rattle.std.proofs.Common.{◌≡◌, ℕ, true, List, length, Option, sym, subst, arith}
 use Rattle.definitions.specs.Systems.{Occurrence, Clause}
-use Rattle.theorems.proofs.Gathered.{has_mem}
 use Rattle.rows.specs.declared.row.Row.{Row}
 use Rattle.rows.specs.Listed.{listed}
 use Rattle.firstcome.specs.Coming.{listed as came}

@@ -1,5 +1,4 @@
-use Rattle.std.proofs.Common.{◌≡◌, ℕ, ◌+◌, true, length, get_or, Some, sym, ap, ◌∙◌, subst, arith}
-use Rattle.std.proofs.lemmas.List.{get_or_read}
+use Rattle.std.proofs.Common.{◌+◌, length, get_or, sym, ap, ◌∙◌, subst, arith}
 use Rattle.definitions.specs.ReadSystem.{greatest_depth}
 use Rattle.theorems.proofs.Listing.{at_some}
 use Rattle.terms.specs.Shapes.{standing}
@@ -7,7 +6,7 @@ use Rattle.rows.specs.Listed.{listed}
 use Rattle.firstcome.specs.declared.FirstCome.{FirstCome}
 use Rattle.firstcome.specs.Coming.{listed as came}
 use Rattle.passes.specs.declared.redundant.Parameter.{Parameter}
-use Rattle.passes.specs.Comes.{Has, Brought, Occurring, parameter, is_parameter}
+use Rattle.passes.specs.Comes.{Has, Brought, parameter, is_parameter}
 use Rattle.passes.proofs.ComingPlans.{place_some}
 use Rattle.passes.proofs.Coming.{Front, brought_none, brought_as, front_first, front_next, front_end}
 use Rattle.passes.proofs.ComingR.{Fed, came_parameter, not_come}

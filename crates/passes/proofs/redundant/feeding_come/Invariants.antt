@@ -1,5 +1,5 @@
 use Rattle.std.proofs.Common.{◌≡◌, ℕ, Bool, true, length}
-use Rattle.definitions.specs.Systems.{Term, Occurrence}
+use Rattle.definitions.specs.Systems.{Occurrence}
 use Rattle.rows.specs.Listed.{listed}
 use Rattle.firstcome.specs.Coming.{listed as came}
 use Rattle.system.specs.Walks.{OccurrenceOf}

@@ -1,4 +1,4 @@
-use Rattle.std.proofs.Common.{◌≡◌, ℕ, length, arith}
+use Rattle.std.proofs.Common.{ℕ, length, arith}
 use Rattle.definitions.specs.Systems.{Clause}
 use Rattle.theorems.proofs.Gathered.{mem_has, has_mem}
 use Rattle.rows.specs.Listed.{listed}

@@ -1,10 +1,9 @@
-use Rattle.std.proofs.Common.{◌≡◌, ℕ, List, length, Some, sym, ap, subst, arith}
+use Rattle.std.proofs.Common.{◌≡◌, List, length, Some, sym, ap, subst, arith}
 use Rattle.definitions.specs.Lists.{at}
 use Rattle.definitions.specs.Systems.{Equation}
 use Rattle.definitions.specs.Fits.{header_of}
 use Rattle.rows.specs.Listed.{listed}
 use Rattle.system.specs.declared.outline.Equation.{Equation as Told}
-use Rattle.passes.specs.declared.redundant.Parameter.{Parameter}
 use Rattle.passes.specs.Comes.{Marking}
 use Rattle.passes.proofs.Coming.{item_at, brought_as, front_first, front_next, front_end}
 use Rattle.passes.proofs.ComingR.{told_equation}

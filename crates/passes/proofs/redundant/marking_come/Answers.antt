@@ -1,4 +1,4 @@
-use Rattle.std.proofs.Common.{◌≡◌, ℕ, List, length, Option, sym, subst}
+use Rattle.std.proofs.Common.{ℕ, List, length, Option, sym, subst}
 use Rattle.definitions.specs.Systems.{Clause}
 use Rattle.definitions.specs.ReadSystem.{scope}
 use Rattle.rows.specs.declared.row.Row.{Row}

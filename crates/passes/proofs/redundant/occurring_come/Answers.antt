@@ -1,4 +1,4 @@
-use Rattle.std.proofs.Common.{◌≡◌, ℕ, ◌+◌, ◌<◌, true, length, List, sym, refl, ap, ◌∙◌, subst, arith}
+use Rattle.std.proofs.Common.{◌≡◌, ◌+◌, ◌<◌, true, length, sym, refl, ap, ◌∙◌, subst, arith}
 use Rattle.definitions.specs.ReadSystem.{greatest_depth}
 use Rattle.definitions.specs.Passes.{occurs_in}
 use Rattle.terms.specs.Shapes.{standing}

@@ -1,4 +1,4 @@
-use Rattle.std.proofs.Common.{◌≡◌, Bool, true, List, length, Some}
+use Rattle.std.proofs.Common.{◌≡◌, Bool, true, length, Some}
 use Rattle.definitions.specs.Systems.{Term}
 use Rattle.definitions.specs.ReadSystem.{greatest_depth}
 use Rattle.terms.specs.Shapes.{standing}

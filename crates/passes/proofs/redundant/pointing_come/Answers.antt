@@ -1,4 +1,4 @@
-use Rattle.std.proofs.Common.{◌≡◌, ℕ, true, List, length, Some, sym, ap, subst, arith}
+use Rattle.std.proofs.Common.{◌≡◌, true, List, length, Some, sym, ap, subst, arith}
 use Rattle.definitions.specs.Lists.{at}
 use Rattle.definitions.specs.Systems.{Equation}
 use Rattle.definitions.specs.Fits.{header_of}

@@ -1,4 +1,4 @@
-use Rattle.std.proofs.Common.{◌≡◌, ◌∙◌, sym, arith}
+use Rattle.std.proofs.Common.{arith}
 use Rattle.firstcome.specs.Coming.{listed as came}
 use Rattle.passes.specs.Comes.{wanted}
 use Rattle.passes.proofs.Coming.{brought_none}

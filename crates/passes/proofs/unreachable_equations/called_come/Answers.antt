@@ -1,16 +1,12 @@
-use Rattle.std.proofs.Common.{◌≡◌, ℕ, List, Option, length, refl, sym, subst, arith}
-use Rattle.definitions.specs.Systems.{Occurrence, Clause}
-use Rattle.definitions.specs.ReadSystem.{Scope}
+use Rattle.std.proofs.Common.{ℕ, List, Option, sym, subst, arith}
+use Rattle.definitions.specs.Systems.{Occurrence}
 use Rattle.rows.specs.declared.row.Row.{Row}
 use Rattle.rows.specs.Listed.{listed}
 use Rattle.system.specs.declared.places.OccurrenceAt.{OccurrenceAt}
-use Rattle.system.specs.declared.places.ClauseAt.{ClauseAt}
 use Rattle.system.specs.Whole.{kept_headers}
 use Rattle.system.specs.Walks.{OccurrenceOf, ClauseOf, Found, Pairs}
-use Rattle.passes.proofs.Coming.{item_at, pair_at, pairs_long, front_first, front_next, front_end, brought_as, no_error, gone_on}
+use Rattle.passes.proofs.Coming.{item_at, pair_at, pairs_long, front_first, front_next, front_end, brought_as}
 use Rattle.passes.proofs.ComingU.{Target, found_target, target_found, target_called, called_target}
-use Rattle.passes.specs.Comes.{Called}
-use Rattle.passes.specs.Comes.{Found as Sought}
 use Rattle.passes.proofs.unreachable_equations.called_come.Goals as goal
 
 pub loop-clause-init : goal.loop-clause-init

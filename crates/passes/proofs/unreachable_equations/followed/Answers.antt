@@ -1,4 +1,4 @@
-use Rattle.std.proofs.Common.{◌≡◌, ℕ, ◌<◌, ◌≤◌, Bor, List, length, get_or, Some, Option, unwrap_or, sym, ap, ◌∙◌, subst, arith}
+use Rattle.std.proofs.Common.{◌≡◌, Bor, length, get_or, Some, Option, unwrap_or, sym, ap, ◌∙◌, subst, arith}
 use mathlib.Core.Bool.{false≢true}
 use Rattle.std.specs.Option.{option_map, IsSome}
 use Rattle.rows.specs.Listed.{listed_within}
@@ -11,7 +11,7 @@ use Rattle.firstcome.specs.Coming.{listed}
 use Rattle.rows.specs.Listed.{listed as row}
 use Rattle.system.specs.declared.outline.Equation.{Equation as Told}
 use Rattle.passes.specs.Comes.{reached}
-use Rattle.passes.proofs.Coming.{brought_none, no_error, gone_on}
+use Rattle.passes.proofs.Coming.{brought_none}
 use Rattle.passes.proofs.ComingU.{led_next, led_all, called_reached, few_reached}
 use Rattle.passes.proofs.unreachable_equations.followed.Goals as goal
 

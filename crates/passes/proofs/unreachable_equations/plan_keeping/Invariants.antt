@@ -1,9 +1,6 @@
-use Rattle.std.proofs.Common.{◌≡◌, ℕ, Bool, true, false, replicate}
+use Rattle.std.proofs.Common.{◌≡◌, false}
 use Rattle.definitions.specs.Lists.{some}
 use Rattle.firstcome.specs.Coming.{listed}
-use Rattle.passes.specs.declared.plan.ParameterChange.TheVariants.{Stays}
-use Rattle.passes.specs.declared.plan.EquationChange.TheVariants as equation
-use Rattle.passes.specs.declared.plan.Change.{Change}
 use Rattle.passes.specs.Plans.{change_none}
 use Rattle.passes.specs.Comes.{is_number}
 use Rattle.passes.proofs.ComingPlans.{Making}

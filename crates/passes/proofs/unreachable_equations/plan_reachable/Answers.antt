@@ -1,7 +1,6 @@
-use Rattle.std.proofs.Common.{◌≡◌, ◌≤◌, List, length, sym, ap, ◌∙◌, subst, arith, rules}
+use Rattle.std.proofs.Common.{◌≡◌, ◌≤◌, length, sym, ap, subst, arith}
 use Rattle.rows.specs.Listed.{listed_within}
-use Rattle.passes.specs.declared.unreachable_equations.EquationNumber.{EquationNumber}
-use Rattle.passes.specs.Comes.{Once, Passing, reached}
+use Rattle.passes.specs.Comes.{reached}
 use Rattle.passes.proofs.Coming.{fresh_room}
 use Rattle.passes.proofs.ComingPlans.{outlined_fits}
 use Rattle.passes.proofs.ComingU.{few_reached, keeping_reached}

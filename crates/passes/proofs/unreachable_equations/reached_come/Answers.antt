@@ -1,6 +1,5 @@
 use Rattle.std.proofs.Common.{Some, refl, ap, ◌∙◌}
-use Rattle.firstcome.specs.Coming.{listed}
-use Rattle.passes.specs.Comes.{Has, reached, number}
+use Rattle.passes.specs.Comes.{reached, number}
 use Rattle.passes.proofs.Coming.{brings_as, brought_after}
 use Rattle.passes.proofs.ComingU.{number_fits, number_brought, start_reached, all_reached}
 use Rattle.passes.proofs.unreachable_equations.reached_come.Goals as goal
