@@ -2,6 +2,10 @@ pub mod TermBits
 pub mod Numbering
 pub mod Masks
 pub mod Along
+pub mod Coming
+pub mod ComingU
+pub mod ComingR
+pub mod ComingPlans
 pub mod Heads
 pub mod Places
 pub mod Equations

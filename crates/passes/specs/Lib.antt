@@ -1,3 +1,4 @@
+pub mod Comes
 pub mod Fronts
 pub mod Learned
 pub mod Letters

@@ -21,6 +21,7 @@ pub mod Following
 pub mod Forms
 pub mod Forth
 pub mod Goods
+pub mod Gathered
 pub mod Histories
 pub mod KeepsC
 pub mod KeepsCut
