@@ -52,6 +52,7 @@ pub mod Tight
 pub mod Tokens
 pub mod TruthsC
 pub mod UniqueFiles
+pub mod Walking
 pub mod Weights
 pub mod Whole
 pub mod Main

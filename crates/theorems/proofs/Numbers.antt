@@ -198,7 +198,7 @@ module _ (a : Alg) (s : System) where
       go p (Some x) = p x (come_distinct ns (vars (form a s x)) d)
 
   -- one more is closed
-  more_closed : (k : ℕ) (ns : List Instance) (x : Instance) → at ns k ≡ Some x → Closed ns ns k →
+  pub more_closed : (k : ℕ) (ns : List Instance) (x : Instance) → at ns k ≡ Some x → Closed ns ns k →
       Closed (come ns (vars (form a s x))) (come ns (vars (form a s x))) (suc k)
   more_closed k ns x e c j y l h = go (dec_lt j k)
     where
