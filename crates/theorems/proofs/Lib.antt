@@ -42,6 +42,7 @@ pub mod Repack
 pub mod RoundStrict
 pub mod Settled
 pub mod Shapes
+pub mod Shipping
 pub mod Solutions
 pub mod Sounds
 pub mod Stable

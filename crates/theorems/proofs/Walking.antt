@@ -1,17 +1,16 @@
 -- Walking a numbering while it grows: what was written of the members that were walked stays right.
-use Rattle.std.proofs.Common.{◌≡◌, ℕ, zero, suc, ◌+◌, ◌<◌, ◌≤◌, Bool, true, false, List, [], ◌∷◌, ◌++◌, map, length, take, Some, None, Option, sym, refl, ap, ◌∙◌, subst, ap₂, true≢false, append_assoc, append-nil, length-append, arith}
+use Rattle.std.proofs.Common.{◌≡◌, ℕ, zero, suc, ◌+◌, ◌<◌, ◌≤◌, Bool, true, false, List, [], ◌∷◌, ◌++◌, map, length, take, Some, None, Option, sym, refl, ap, ◌∙◌, ap₂, true≢false, append_assoc, append-nil, length-append, arith}
 use Rattle.std.proofs.lemmas.List.{take_all}
 use Rattle.definitions.specs.Lists.{at, flat}
 use Rattle.definitions.specs.Bits.{bits}
-use Rattle.definitions.specs.Alg.{Alg, Lawful}
+use Rattle.definitions.specs.Alg.{Alg}
 use Rattle.definitions.specs.Systems.{System}
 use Rattle.definitions.specs.Truth.{Instance}
 use Rattle.definitions.specs.Boolean.{Form, known, all, any, var, Forms, nil, cons, vars, vars_all, renamed, renamed_all, form, same_instance, come, comes, number_in, variable_of, variable_bits}
-use Rattle.definitions.specs.Fits.{Every, SystemFits}
+use Rattle.definitions.specs.Fits.{Every}
 use Rattle.theorems.specs.PassLaws.{InRange}
 use Rattle.theorems.proofs.Listing.{none_some, some_same, at_lt, every_at, every_left, every_right, every_with}
-use Rattle.theorems.proofs.Tokens.{start_fits, tokens_fit}
-use Rattle.theorems.proofs.Numbers.{Has, instance_same, Grows, grows_trans, grows_at, at_none, at_left, come_grows, comes_grows, come_keeps, Closed, more_closed}
+use Rattle.theorems.proofs.Numbers.{Has, instance_same, Grows, grows_at, at_none, come_grows, comes_grows, come_keeps, Closed, more_closed}
 
 -- renaming by two functions that agree on the variables
 mutual
