@@ -6,6 +6,7 @@ pub mod Blocks
 pub mod BooleanBack
 pub mod BooleanForth
 pub mod Closing
+pub mod Coming
 pub mod Cut
 pub mod Enough
 pub mod Evaluates

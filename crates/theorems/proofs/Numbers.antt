@@ -118,7 +118,7 @@ come_grows ns (x ∷ xs) = go (come_grows ns xs) (come_grows (ns ++ (x ∷ [])) 
     go p q true = p
     go p q false = grows_snoc ns x q
 
-come_has : (ns xs : List Instance) → Every (Has (come ns xs)) xs
+pub come_has : (ns xs : List Instance) → Every (Has (come ns xs)) xs
 come_has ns [] = tt
 come_has ns (x ∷ xs) = go (come_has ns xs) (come_has (ns ++ (x ∷ [])) xs) (some (same_instance x) ns) refl
   where
