@@ -9,7 +9,7 @@ use Rattle.definitions.specs.Fits.{Every}
 use Rattle.theorems.proofs.Listing.{none_some, some_same, every_with, every_left, every_right}
 use Rattle.theorems.proofs.Numbers.{Has, instance_same, come_grows, come_has, come_append}
 
-number_more : (ns ys : List Instance) (x : Instance) → Has ns x → number_in (ns ++ ys) x ≡ number_in ns x
+pub number_more : (ns ys : List Instance) (x : Instance) → Has ns x → number_in (ns ++ ys) x ≡ number_in ns x
 number_more [] ys x m = none_some x m.1
 number_more (y ∷ ns) ys x m = go (number_more ns ys x) (same_instance y x) refl m.0 m.1
   where

@@ -1,44 +1,22 @@
 -- Walking a numbering while it grows: what was written of the members that were walked stays right.
-use Rattle.std.proofs.Common.{◌≡◌, ℕ, zero, suc, ◌+◌, ◌<◌, ◌≤◌, Bool, true, false, List, [], ◌∷◌, ◌++◌, map, length, take, Some, None, Option, sym, refl, ap, ◌∙◌, ap₂, true≢false, append_assoc, append-nil, length-append, arith}
+use Rattle.std.proofs.Common.{◌≡◌, ℕ, zero, suc, ◌+◌, ◌<◌, ◌≤◌, List, [], ◌∷◌, ◌++◌, map, length, take, Some, None, Option, sym, refl, ap, ◌∙◌, ap₂, append_assoc, append-nil, length-append, arith}
 use Rattle.std.proofs.lemmas.List.{take_all}
 use Rattle.definitions.specs.Lists.{at, flat}
 use Rattle.definitions.specs.Bits.{bits}
 use Rattle.definitions.specs.Alg.{Alg}
 use Rattle.definitions.specs.Systems.{System}
 use Rattle.definitions.specs.Truth.{Instance}
-use Rattle.definitions.specs.Boolean.{Form, known, all, any, var, Forms, nil, cons, vars, vars_all, renamed, renamed_all, form, same_instance, come, comes, number_in, variable_of, variable_bits}
+use Rattle.definitions.specs.Boolean.{vars, form, come, comes, number_in, variable_of, variable_bits}
+use Rattle.definitions.specs.Written.{sign_bits}
 use Rattle.definitions.specs.Fits.{Every}
 use Rattle.theorems.specs.PassLaws.{InRange}
-use Rattle.theorems.proofs.Listing.{none_some, some_same, at_lt, every_at, every_left, every_right, every_with}
-use Rattle.theorems.proofs.Numbers.{Has, instance_same, Grows, grows_at, at_none, come_grows, comes_grows, come_keeps, Closed, more_closed}
-
--- renaming by two functions that agree on the variables
-mutual
-  pub renamed_agree : {I J : Type 0} (p : Form I) (f g : I → J) → Every (λ i. f i ≡ g i) (vars p) → renamed p f ≡ renamed p g
-  renamed_agree (known t) f g h = refl
-  renamed_agree (all ps) f g h = ap all (renamed_all_agree ps f g h)
-  renamed_agree (any ps) f g h = ap any (renamed_all_agree ps f g h)
-  renamed_agree (var i) f g h = ap var h.0
-
-  renamed_all_agree : {I J : Type 0} (ps : Forms I) (f g : I → J) → Every (λ i. f i ≡ g i) (vars_all ps) → renamed_all ps f ≡ renamed_all ps g
-  renamed_all_agree nil f g h = refl
-  renamed_all_agree (cons p ps) f g h =
-      ap₂ cons (renamed_agree p f g (every_left (λ i. f i ≡ g i) (vars p) (vars_all ps) h))
-      (renamed_all_agree ps f g (every_right (λ i. f i ≡ g i) (vars p) (vars_all ps) h))
+use Rattle.theorems.proofs.Listing.{none_some, some_same, at_lt, every_at, every_with}
+use Rattle.theorems.proofs.Coming.{number_more, form_asks}
+use Rattle.theorems.proofs.Numbers.{Has, Grows, grows_at, at_none, come_grows, comes_grows, come_keeps, Closed, more_closed}
 
 -- a member keeps its number when more come
-number_left : (ns ms : List Instance) (x : Instance) → Has ns x → number_in (ns ++ ms) x ≡ number_in ns x
-number_left [] ms x m = none_some x m.1
-number_left (y ∷ ns) ms x m = go (number_left ns ms x) (same_instance y x) refl m.0 m.1
-  where
-    go : (Has ns x → number_in (ns ++ ms) x ≡ number_in ns x) → (b : Bool) → same_instance y x ≡ b → (j : ℕ) → at (y ∷ ns) j ≡ Some x →
-        elim b as (λ _. ℕ) [ true ↦ 0 | false ↦ suc (number_in (ns ++ ms) x) ] ≡ elim b as (λ _. ℕ) [ true ↦ 0 | false ↦ suc (number_in ns x) ]
-    go ih true e j q = refl
-    go ih false e zero q = absurd (true≢false (sym (instance_same y x (some_same y x q)) ∙ e))
-    go ih false e (suc j) q = ap suc (ih (j, q))
-
-pub number_stays : (ns ms : List Instance) → Grows ns ms → (x : Instance) → Has ns x → number_in ns x ≡ number_in ms x
-number_stays ns ms g x m = sym (ap (λ l. number_in l x) g.is ∙ number_left ns g.rest x m)
+number_stays : (ns ms : List Instance) → Grows ns ms → (x : Instance) → Has ns x → number_in ns x ≡ number_in ms x
+number_stays ns ms g x m = sym (ap (λ l. number_in l x) g.is ∙ number_more ns g.rest x m)
 
 -- the first members
 take_back : {A : Type 0} (k : ℕ) (l m : List A) → k ≤ length l → take k (l ++ m) ≡ take k l
@@ -77,8 +55,8 @@ module _ (a : Alg) (s : System) where
   bits_agree : (ns ms : List Instance) → Grows ns ms → (x : Instance) → Every (Has ns) (vars (form a s x)) →
       variable_bits (variable_of a s ns x) ≡ variable_bits (variable_of a s ms x)
   bits_agree ns ms g x h =
-      ap (λ (p : Form ℕ). variable_bits (record { sign = (variable_of a s ns x).sign; rank = x.0; body = p }))
-      (renamed_agree (form a s x) (number_in ns) (number_in ms) (every_with (Has ns) (λ y. number_in ns y ≡ number_in ms y) (vars (form a s x)) h (number_stays ns ms g)))
+      ap (λ z. sign_bits (variable_of a s ns x).sign ++ (bits 5 x.0 ++ z))
+      (form_asks (form a s x) (number_in ns) (number_in ms) (every_with (Has ns) (λ y. number_in ns y ≡ number_in ms y) (vars (form a s x)) h (number_stays ns ms g)))
 
   members_agree : (k : ℕ) (ns ms : List Instance) → k ≤ length ns → Grows ns ms → Closed a s ns ns k → member_bits ns (take k ns) ≡ member_bits ms (take k ms)
   members_agree k ns ms l g c =
