@@ -1,0 +1,35 @@
+-- What the whole Boolean file comes to, in a draft, in a buffer and in the caller's buffer.
+use Rattle.std.specs.Prelude.{◌≡◌, ℕ, ◌<◌, List, [], ◌++◌, map, length, Ok, Err, Result}
+use Rattle.faults.specs.declared.ExpandFault.{ExpandFault}
+use Rattle.definitions.specs.Lists.{flat}
+use Rattle.definitions.specs.Alg.{Alg}
+use Rattle.definitions.specs.Bits.{bits}
+use Rattle.definitions.specs.Systems.{System}
+use Rattle.definitions.specs.Truth.{Instance}
+use Rattle.definitions.specs.Boolean.{numbering, variable_of, variable_bits, Expanded, refused}
+use Rattle.definitions.specs.Calls.{Makes}
+use Rattle.bits.specs.declared.writer.BitWriter.{BitWriter}
+use Rattle.expansion.specs.declared.Expansion.{Expansion}
+use Rattle.expansion.specs.declared.draft.Draft.{Draft}
+use Rattle.expansion.specs.declared.draft.Unfinished.{Unfinished}
+use Rattle.expansion.specs.Drafts.{Drafted}
+
+-- the bits of the variables of instances, in their order
+abbrev pub variables_bits : Alg → System → List Instance → List ℕ
+variables_bits a s ns = flat (map (λ x. variable_bits (variable_of a s ns x)) ns)
+
+-- into an empty draft all that is reached has come and is written, behind the place of the count; or there are too few places for it
+abbrev pub Numbers : {T : Type 0} → Alg → System → Draft → Draft → Result T Unfinished → Type 0
+Numbers a s old new (Ok x) =
+    (first : BitWriter) (places : ℕ) → Drafted s first places [] [] old → Drafted s first places (numbering a s) (bits 12 0 ++ variables_bits a s (numbering a s)) new
+Numbers a s old new (Err e) = (first : BitWriter) (places : ℕ) → Drafted s first places [] [] old → places < length (numbering a s)
+
+-- what is made stands in front of the buffer, or it is refused
+abbrev pub InBuffer : Expanded → List ℕ → List ℕ → Result Expansion ExpandFault → Type 0
+InBuffer o before after (Ok x) = Makes o before after x.len x.variables
+InBuffer o before after (Err e) = o ≡ refused e
+
+-- the answer as two numbers
+abbrev pub told : Result Expansion ExpandFault → Result (ℕ × ℕ) ExpandFault
+told (Ok x) = Ok (x.len, x.variables)
+told (Err e) = Err e
