@@ -1,2 +1,3 @@
+pub mod Bodies
 pub mod Fronts
 pub mod Drafts
