@@ -9,10 +9,9 @@ use Rattle.definitions.specs.Truth.{Instance}
 use Rattle.definitions.specs.Boolean.{vars, form, come, comes, number_in, variable_of, variable_bits}
 use Rattle.definitions.specs.Written.{sign_bits}
 use Rattle.definitions.specs.Fits.{Every}
-use Rattle.theorems.specs.PassLaws.{InRange}
-use Rattle.theorems.proofs.Listing.{none_some, some_same, at_lt, every_at, every_with}
+use Rattle.theorems.proofs.Listing.{none_some, some_same, at_lt, every_with}
 use Rattle.theorems.proofs.Coming.{number_more, form_asks}
-use Rattle.theorems.proofs.Numbers.{Has, Grows, grows_at, at_none, come_grows, comes_grows, come_keeps, Closed, more_closed}
+use Rattle.theorems.proofs.Numbers.{Has, Grows, grows_at, at_none, come_grows, comes_grows, Closed, more_closed}
 
 -- a member keeps its number when more come
 number_stays : (ns ms : List Instance) → Grows ns ms → (x : Instance) → Has ns x → number_in ns x ≡ number_in ms x
@@ -81,10 +80,9 @@ module _ (a : Alg) (s : System) where
     pub wrote : bs ≡ bits 12 0 ++ member_bits ns (take k ns)
     pub closed : Closed a s ns ns k
     pub passed : k ≤ length ns
-    pub fine : Every (InRange a s) ns
 
-  pub walk_begins : (n : ℕ) → InRange a s (s.start, s.values) → Walked n 0 ((s.start, s.values) ∷ []) (bits 12 0)
-  walk_begins n h =
+  pub walk_begins : (n : ℕ) → Walked n 0 ((s.start, s.values) ∷ []) (bits 12 0)
+  walk_begins n =
       record {
         left = n;
         steps = omega arith;
@@ -92,7 +90,6 @@ module _ (a : Alg) (s : System) where
         wrote = sym (append-nil (bits 12 0));
         closed = λ j x l. absurd (omega arith);
         passed = omega arith;
-        fine = (h, tt);
       }
 
   step : (left n k : ℕ) (ns : List Instance) (x : Instance) (whole : List Instance) → at ns k ≡ Some x → left + k ≡ n → k < n → comes left a s k ns ≡ whole →
@@ -101,9 +98,9 @@ module _ (a : Alg) (s : System) where
   step (suc m) n k ns x whole e l h r =
       (m, omega arith, sym (ap (λ (o : Option Instance). elim o as (λ _. List Instance) [ None ↦ ns | Some y ↦ comes m a s (suc k) (come ns (vars (form a s y))) ]) e) ∙ r)
 
-  pub walk_goes : (n k : ℕ) (ns : List Instance) (bs : List ℕ) (x : Instance) → ((y : Instance) → InRange a s y → Every (InRange a s) (vars (form a s y))) → Walked n k ns bs → at ns k ≡ Some x → k < n →
+  pub walk_goes : (n k : ℕ) (ns : List Instance) (bs : List ℕ) (x : Instance) → Walked n k ns bs → at ns k ≡ Some x → k < n →
       Walked n (suc k) (come ns (vars (form a s x))) (bs ++ variable_bits (variable_of a s (come ns (vars (form a s x))) x))
-  walk_goes n k ns bs x tokens w e h =
+  walk_goes n k ns bs x w e h =
       let ms = come ns (vars (form a s x)) in
       let g = come_grows ns (vars (form a s x)) in
       let t = step w.left n k ns x (comes n a s 0 ((s.start, s.values) ∷ [])) e w.steps h w.rest in
@@ -119,7 +116,6 @@ module _ (a : Alg) (s : System) where
             ap (λ z. bits 12 0 ++ z) (members_next k ms x there);
         closed = more_closed a s k ns x e w.closed;
         passed = let l : k < length ms = at_lt ms k x there in omega arith;
-        fine = come_keeps (InRange a s) ns (vars (form a s x)) w.fine (tokens x (every_at (InRange a s) ns k x e w.fine));
       }
 
   -- what has come after one step more is no more than comes in all
