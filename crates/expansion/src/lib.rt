@@ -14,12 +14,11 @@ mod draft;
 mod whole;
 
 use algebra::Algebra;
-use bits::deliver;
-use faults::{ExpandFault, Reason};
+use faults::ExpandFault;
 use system::instance::Instance;
 use system::reading::read;
 use system::walk::Accepted;
-use whole::draft_file;
+use whole::write_file;
 
 // The limits of an expand, which are told apart from those of a Boolean file's readers: `boolean` and this crate do not see one another.
 /// The most instances.
@@ -51,10 +50,5 @@ pub fn expand<G: Algebra>(
         outline: &outline,
         file,
     };
-    let mut buffer = [0u8; LONGEST_BOOLEAN];
-    let expansion = draft_file(&accepted, work, &mut buffer)?;
-    let too_long = ExpandFault::Refused(Reason::BooleanTooLong);
-    let boolean = buffer.get(0..expansion.len).ok_or(too_long)?;
-    deliver(out, boolean).or(Err(too_long))?;
-    Ok(expansion)
+    write_file(&accepted, work, out)
 }
