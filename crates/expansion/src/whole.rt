@@ -25,7 +25,7 @@ fn write_variables<G: Algebra>(
     accepted: &Accepted<G>,
     draft: &mut Draft,
 ) -> Result<(), Unfinished>
-    ensures numbers { (s : System) → length accepted.now.file.now ≤ 65536 → Outlined (G.meaning accepted.now.alg.now) accepted.now.file.now s accepted.now.outline.now → SystemFits (G.meaning accepted.now.alg.now) s → Numbers (G.meaning accepted.now.alg.now) s draft.old draft.new result }
+    ensures { (s : System) → length accepted.now.file.now ≤ 65536 → Outlined (G.meaning accepted.now.alg.now) accepted.now.file.now s accepted.now.outline.now → SystemFits (G.meaning accepted.now.alg.now) s → Numbers (G.meaning accepted.now.alg.now) s draft.old draft.new result }
 {
     draft.come(accepted.outline.start)?;
     draft.put(0, 12);
