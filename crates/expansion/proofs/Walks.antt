@@ -6,10 +6,10 @@ use Rattle.definitions.specs.Bits.{bits}
 use Rattle.definitions.specs.Systems.{System}
 use Rattle.definitions.specs.ReadSystem.{Header}
 use Rattle.definitions.specs.Truth.{Instance}
-use Rattle.definitions.specs.Boolean.{vars, form, come, numbering, number_in, variable_of, variable_bits}
+use Rattle.definitions.specs.Boolean.{vars, form, come, numbering, number_in, renamed, sign_at, variable_of, variable_bits}
 use Rattle.definitions.specs.Fits.{Every, ValuesFit, SystemFits, header_of}
 use Rattle.theorems.proofs.Listing.{every_at, at_lt, at_map_some}
-use Rattle.theorems.proofs.Walking.{Walked, walk_begins, walk_goes, walk_within, walk_ends, walk_full}
+use Rattle.theorems.proofs.Walking.{Walked, start_comes, walk_begins, walk_goes, walk_within, AllWalked, walk_ends, walk_full}
 use Rattle.bits.specs.declared.writer.BitWriter.{BitWriter}
 use Rattle.firstcome.specs.Coming.{listed}
 use Rattle.system.specs.declared.instance.Instance.{Instance as Kept}
@@ -69,3 +69,50 @@ module _ (a : Alg) (s : System) (first : BitWriter) (places : ℕ) where
         walked = walk_begins a s 4096;
         drafted = p s first places ((s.start, s.values) ∷ []) [] (subst (Drafts s ((s.start, s.values) ∷ []) (λ f. []) old now) e h first places [] [] d);
       }
+
+  -- not even the start has a place
+  pub start_short : {T : Type 0} (old now : Draft) (r : Result T Unfinished) (z : Unfinished) → r ≡ Err z → Drafted s first places [] [] old → Drafts s ((s.start, s.values) ∷ []) (λ f. []) old now r → places < length (numbering a s)
+  start_short old now r z e d h =
+      let l = subst (Drafts s ((s.start, s.values) ∷ []) (λ f. []) old now) e h first places [] [] d in
+      let m = start_comes a s 4096 in
+      omega arith
+
+  -- the instance at the place k is that of the numbering
+  met : (k : ℕ) (d : Draft) (i : Kept) (w : Walks a s first places k d) → at (listed d.list) k ≡ Some i → (x : Instance) × (at w.instances k ≡ Some x) × StandsFor i x
+  met k d i w e = pairs_some StandsFor (listed d.list) w.instances w.drafted.lists k i e
+
+  -- one more is walked
+  pub walks_next : {T : Type 0} (k : ℕ) (i : Kept) (old new : Draft) (r : Result T Unfinished) (t : T) → k < 4096 → Walks a s first places k old → at (listed old.list) k ≡ Some i → r ≡ Ok t →
+      ((x : Instance) → Fine s x → StandsFor i x → Drafts s (vars (form a s x)) (λ f. variable_bits (record { sign = sign_at (at s.equations x.0); rank = x.0; body = renamed (form a s x) f })) old new r) → Walks a s first places (suc k) new
+  walks_next k i old new r t l w e q h =
+      let (x, there, stands) = met k old i w e in
+      let fine = every_at (Fine s) w.instances k x there w.drafted.fine in
+      let ms = come w.instances (vars (form a s x)) in
+      record {
+        instances = ms;
+        bits = w.bits ++ variable_bits (variable_of a s ms x);
+        walked = walk_goes a s 4096 k w.instances w.bits x w.walked there l;
+        drafted = subst (Drafts s (vars (form a s x)) (λ f. variable_bits (record { sign = sign_at (at s.equations x.0); rank = x.0; body = renamed (form a s x) f })) old new) q (h x fine stands) first places w.instances w.bits w.drafted;
+      }
+
+  -- or there are too few places for all
+  pub walks_short : {T : Type 0} (k : ℕ) (i : Kept) (old new : Draft) (r : Result T Unfinished) (z : Unfinished) → k < 4096 → Walks a s first places k old → at (listed old.list) k ≡ Some i → r ≡ Err z →
+      ((x : Instance) → Fine s x → StandsFor i x → Drafts s (vars (form a s x)) (λ f. variable_bits (record { sign = sign_at (at s.equations x.0); rank = x.0; body = renamed (form a s x) f })) old new r) → places < length (numbering a s)
+  walks_short k i old new r z l w e q h =
+      let (x, there, stands) = met k old i w e in
+      let fine = every_at (Fine s) w.instances k x there w.drafted.fine in
+      let many = subst (Drafts s (vars (form a s x)) (λ f. variable_bits (record { sign = sign_at (at s.equations x.0); rank = x.0; body = renamed (form a s x) f })) old new) q (h x fine stands) first places w.instances w.bits w.drafted in
+      let more = walk_within a s 4096 k w.instances w.bits x w.walked there l in
+      omega arith
+
+  all_done : (k : ℕ) (d : Draft) (w : Walks a s first places k d) → AllWalked a s 4096 w.instances w.bits → Drafted s first places (numbering a s) (bits 12 0 ++ variables_bits a s (numbering a s)) d
+  all_done k d w h =
+      subst (λ ns. Drafted s first places ns (bits 12 0 ++ variables_bits a s ns) d) h.whole (subst (λ bs. Drafted s first places w.instances bs d) h.wrote w.drafted)
+
+  -- no instance is left, or so many are walked as there may be
+  pub walks_end : (k : ℕ) (d : Draft) → Walks a s first places k d → at (listed d.list) k ≡ None → Drafted s first places (numbering a s) (bits 12 0 ++ variables_bits a s (numbering a s)) d
+  walks_end k d w e = all_done k d w (walk_ends a s 4096 k w.instances w.bits w.walked (pairs_none StandsFor (listed d.list) w.instances w.drafted.lists k e))
+
+  pub walks_full : (k : ℕ) (d : Draft) → Walks a s first places k d → 4096 ≤ k → Drafted s first places (numbering a s) (bits 12 0 ++ variables_bits a s (numbering a s)) d
+  walks_full k d w l =
+      all_done k d w (walk_full a s 4096 k w.instances w.bits w.walked (let i = d.list.within in let n = w.drafted.count in let m = w.drafted.slice in let f = w.drafted.few in omega arith))
