@@ -1,27 +1,35 @@
 -- The whole Boolean file, drafted and handed over: what the answers say is what expanding comes to.
 use Rattle.faults.specs.declared.ExpandFault.{ExpandFault}
-use Rattle.faults.specs.declared.ExpandFault.TheVariants.{Refused}
+use Rattle.faults.specs.declared.ExpandFault.TheVariants.{Unread, Refused}
+use Rattle.faults.specs.declared.ReadFault.{ReadFault}
 use Rattle.faults.specs.declared.Reason.TheVariants.{TooManyInstances, BooleanTooLong}
-use Rattle.std.proofs.Common.{◌≡◌, ℕ, ◌+◌, ◌-◌, ◌<◌, ◌≤◌, ◌⊎◌, inl, inr, true, false, min, List, [], ◌++◌, length, take, drop, Some, None, Option, Ok, Err, Result, sym, refl, ap, ◌∙◌, subst, length-append, arith}
+use Rattle.std.proofs.Common.{◌≡◌, ℕ, ◌+◌, ◌-◌, ◌<◌, ◌≤◌, ◌⊎◌, inl, inr, true, false, min, suc, List, [], ◌∷◌, ◌++◌, length, get_or, take, drop, Some, None, Option, Ok, Err, Result, sym, refl, ap, ◌∙◌, subst, length-append, arith}
 use Rattle.std.proofs.lemmas.Bool.{cases_lt}
 use Rattle.std.proofs.lemmas.List.{length-take, length-drop}
 use Rattle.std.proofs.Math.Seq.{take-append_seam}
 use Rattle.std.specs.List.{slice_range}
 use Rattle.std.specs.Option.{ok_or}
 use Rattle.std.specs.Result.{result_or, is_ok, IsOk, OnOk}
-use Rattle.definitions.specs.Alg.{Alg}
+use Rattle.definitions.specs.Alg.{Alg, Lawful}
 use Rattle.definitions.specs.Bits.{bits, packed}
 use Rattle.definitions.specs.Systems.{System}
-use Rattle.definitions.specs.Boolean.{numbering, made, refused, expand_system}
+use Rattle.definitions.specs.ReadSystem.{reading}
+use Rattle.definitions.specs.Fits.{Every, SystemFits}
+use Rattle.definitions.specs.Boolean.{numbering, Expanded, made, refused, expand_system, expand_read}
 use Rattle.definitions.specs.Calls.{Delivered, Expanding}
+use Rattle.theorems.proofs.Repack.{whole_forth}
 use Rattle.theorems.proofs.Walking.{start_comes}
 use Rattle.theorems.proofs.Shipping.{content, expands_many, expands_long, expands_made}
 use Rattle.bits.specs.declared.writer.BitWriter.{BitWriter}
 use Rattle.bits.specs.declared.writer.Full.{Full}
+use Rattle.system.specs.declared.outline.Outline.{Outline}
+use Rattle.system.specs.Whole.{Outlined, Read}
+use Rattle.system.proofs.Outlines.{got_short}
 use Rattle.expansion.specs.declared.Expansion.{Expansion}
 use Rattle.expansion.specs.declared.draft.Draft.{Draft}
 use Rattle.expansion.specs.declared.draft.Unfinished.{Unfinished}
 use Rattle.expansion.specs.Drafts.{Drafted, Shut}
+use Rattle.expansion.specs.Fronts.{Expands}
 use Rattle.expansion.specs.Whole.{variables_bits, Numbers, HandsOver, told}
 
 -- one answer or another
@@ -126,3 +134,24 @@ module _ (a : Alg) (s : System) (first : BitWriter) (work places : ℕ) (p : pla
             why = expands_long a s work (length before) (numbering a s) refl few placed (large k.2) ∙ ap refused (sym k.0);
             kept = k.1;
           }
+
+-- a file that is not read, and one that is
+pub unread : (a : Alg) (f before after : List ℕ) (work room : ℕ) (e : ReadFault) → Read a f (Err e) → after ≡ before → Expanding (expand_read a work room (reading a f)) before after (Err (Unread e))
+unread a f before after work room e h kept = record { why = ap (expand_read a work room) h; kept = kept }
+
+pub was_read : (a : Alg) (f before after : List ℕ) (work : ℕ) (o : Outline) (r : Result Expansion ExpandFault) → Lawful a → Every (λ x. x < 256) f → Read a f (Ok o) →
+    ((s : System) → length f ≤ 65536 → Outlined a f s o → SystemFits a s → Expanding (expand_system a work (length before) s) before after (told r)) → Expanding (expand_read a work (length before) (reading a f)) before after (told r)
+was_read a f before after work o r law bytes h makes =
+    let (s, (got, out)) = h in
+    let short = got_short a f s got in
+    subst (λ g. Expanding (expand_read a work (length before) g) before after (told r)) (sym got) (makes s (omega arith) out (whole_forth a law f bytes s got).1)
+
+-- what that says of the buffer alone
+pub fronted : (o : Expanded) (before after : List ℕ) (r : Result Expansion ExpandFault) → Expanding o before after (told r) → Expands before after r
+fronted o before after (Ok x) h = (h.file, h.put)
+fronted o before after (Err e) h = h.kept
+
+-- the items of a list of bytes
+pub bytes_each : (f : List ℕ) → ((i : ℕ) → get_or f i 0 < 256) → Every (λ x. x < 256) f
+bytes_each [] h = tt
+bytes_each (x ∷ f) h = (h 0, bytes_each f (λ i. h (suc i)))
