@@ -1,3 +1,4 @@
 pub mod Drafting
 pub mod Naming
 pub mod Counting
+pub mod Meanings
