@@ -18,7 +18,7 @@ use Rattle.system.specs.Walks.{Pairs}
 use Rattle.system.specs.Whole.{Outlined}
 use Rattle.expansion.specs.declared.draft.Draft.{Draft}
 use Rattle.expansion.specs.declared.draft.Unfinished.{Unfinished}
-use Rattle.expansion.specs.Drafts.{Fine, StandsFor, Drafted, Drafts, Puts}
+use Rattle.expansion.specs.Drafts.{Fine, StandsFor, Drafted, Drafts}
 use Rattle.expansion.specs.Whole.{variables_bits, Numbers}
 
 -- the instance of the start is one of the system's, and the kept one stands for it
@@ -60,20 +60,19 @@ pub record Walks (a : Alg) (s : System) (first : BitWriter) (places k : ℕ) (d 
 
 module _ (a : Alg) (s : System) (first : BitWriter) (places : ℕ) where
   -- the start has come, and the place of the count is written
-  pub walks_begin : {T : Type 0} (old now new : Draft) (r : Result T Unfinished) (x : T) → r ≡ Ok x → Drafted s first places [] [] old → Drafts s ((s.start, s.values) ∷ []) (λ f. []) old now r → Puts (bits 12 0) now new →
-      Walks a s first places 0 new
-  walks_begin old now new r x e d h p =
+  pub walks_begin : {T : Type 0} (old new : Draft) (r : Result T Unfinished) (x : T) → r ≡ Ok x → Drafted s first places [] [] old → Drafts s ((s.start, s.values) ∷ []) (λ f. bits 12 0) old new r → Walks a s first places 0 new
+  walks_begin old new r x e d h =
       record {
         instances = (s.start, s.values) ∷ [];
         bits = bits 12 0;
         walked = walk_begins a s 4096;
-        drafted = p s first places ((s.start, s.values) ∷ []) [] (subst (Drafts s ((s.start, s.values) ∷ []) (λ f. []) old now) e h first places [] [] d);
+        drafted = subst (Drafts s ((s.start, s.values) ∷ []) (λ f. bits 12 0) old new) e h first places [] [] d;
       }
 
   -- not even the start has a place
-  pub start_short : {T : Type 0} (old now : Draft) (r : Result T Unfinished) (z : Unfinished) → r ≡ Err z → Drafted s first places [] [] old → Drafts s ((s.start, s.values) ∷ []) (λ f. []) old now r → places < length (numbering a s)
-  start_short old now r z e d h =
-      let l = subst (Drafts s ((s.start, s.values) ∷ []) (λ f. []) old now) e h first places [] [] d in
+  pub start_short : {T : Type 0} (old new : Draft) (r : Result T Unfinished) (z : Unfinished) → r ≡ Err z → Drafted s first places [] [] old → Drafts s ((s.start, s.values) ∷ []) (λ f. bits 12 0) old new r → places < length (numbering a s)
+  start_short old new r z e d h =
+      let l = subst (Drafts s ((s.start, s.values) ∷ []) (λ f. bits 12 0) old new) e h first places [] [] d in
       let m = start_comes a s 4096 in
       omega arith
 

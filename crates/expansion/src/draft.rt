@@ -27,7 +27,7 @@ pub struct Unfinished;
 #[derive(Drop)]
 pub struct Draft<'a, 'b> {
     pub list: FirstCome<'a, Instance>,
-    writer: BitWriter<'b>,
+    pub writer: BitWriter<'b>,
     too_long: bool,
 }
 
@@ -54,6 +54,15 @@ impl<'a, 'b> Draft<'a, 'b> {
         if !self.too_long {
             self.too_long = self.writer.put(value, width).is_err();
         }
+    }
+
+    // The start comes, and the place of the variable count is kept.
+    pub(crate) fn begin(&mut self, start: Instance) -> Result<(), Unfinished>
+        ensures { (s : System) (x : Meant) → Fine s x → StandsFor start x → Drafts s (x ∷ []) (λ f. bits_of 12 0) self.old self.new result }
+    {
+        self.list.come(start).ok_or(Unfinished)?;
+        self.put(0, 12);
+        Ok(())
     }
 
     // A token without parts.

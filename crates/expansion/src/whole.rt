@@ -27,8 +27,7 @@ fn write_variables<G: Algebra>(
 ) -> Result<(), Unfinished>
     ensures { (s : System) → length accepted.now.file.now ≤ 65536 → Outlined (G.meaning accepted.now.alg.now) accepted.now.file.now s accepted.now.outline.now → SystemFits (G.meaning accepted.now.alg.now) s → Numbers (G.meaning accepted.now.alg.now) s draft.old draft.new result }
 {
-    draft.come(accepted.outline.start)?;
-    draft.put(0, 12);
+    draft.begin(accepted.outline.start)?;
     // The list grows while it is walked, so no iterator can hold it.
     for k in 0..INSTANCES {
         let Some(instance) = draft.list.get(k) else {

@@ -1,20 +1,20 @@
-use Rattle.std.proofs.Common.{ℕ, ◌+◌, ◌<◌, ◌≤◌, length, sym, ◌∙◌, subst, add-one, arith}
+use Rattle.std.proofs.Common.{ℕ, ◌+◌, ◌<◌, ◌≤◌, length, sym, ◌∙◌, subst, add-one}
 use Rattle.std.proofs.lemmas.Result.{err_from_is_err_and}
 use Rattle.expansion.proofs.Walks.{Walks, start_fine, start_stands, start_short, walks_begin, walks_next, walks_short, walks_end, walks_full}
 use Rattle.expansion.proofs.whole.write_variables.Goals as goal
 
-pub returns-in_err-come : goal.returns-in_err-come
-returns-in_err-come g c = λ s short out fit.
+pub returns-in_err-begin : goal.returns-in_err-begin
+returns-in_err-begin g c = λ s short out fit.
     let a = g.G.Algebra.meaning c.args.accepted.now.alg.now in
     let t = err_from_is_err_and c.from_residual.result c.from_residual.ensures.1 in
-    let h = c.come.ensures.comes s (s.start, s.values) (start_fine a s fit) (start_stands a c.args.accepted.now.file.now s c.args.accepted.now.outline.now out) in
-    rw t.1 (λ first places d. start_short a s first places c.args.draft.now c.come.new.self c.come.result c.in_err-come.field-0.0 c.in_err-come.was d h)
+    let h = c.begin.ensures s (s.start, s.values) (start_fine a s fit) (start_stands a c.args.accepted.now.file.now s c.args.accepted.now.outline.now out) in
+    rw t.1 (λ first places d. start_short a s first places c.args.draft.now c.begin.new.self c.begin.result c.in_err-begin.field-0.0 c.in_err-begin.was d h)
 
 pub loop-k-init : goal.loop-k-init
 loop-k-init g c = λ s first places short out fit d.
     let a = g.G.Algebra.meaning c.args.accepted.now.alg.now in
-    let h = c.come.ensures.comes s (s.start, s.values) (start_fine a s fit) (start_stands a c.args.accepted.now.file.now s c.args.accepted.now.outline.now out) in
-    walks_begin a s first places c.args.draft.now c.come.new.self c.put.new.self c.come.result c.in_ok-come.field-0 c.in_ok-come.was d h (c.put.ensures (omega arith) (omega arith))
+    let h = c.begin.ensures s (s.start, s.values) (start_fine a s fit) (start_stands a c.args.accepted.now.file.now s c.args.accepted.now.outline.now out) in
+    walks_begin a s first places c.args.draft.now c.begin.new.self c.begin.result c.in_ok-begin.field-0 c.in_ok-begin.was d h
 
 pub loop-k-preserved : goal.loop-k-preserved
 loop-k-preserved g c = λ s first places short out fit d.
