@@ -1,8 +1,6 @@
-use Rattle.std.proofs.Common.{rules, ◌≡◌, ℕ, ◌-◌, ◌<◌, ◌≤◌, ◌⊎◌, List, ◌++◌, length, drop, Ok, Err, Some, None, refl, ap, ◌∙◌, sym, subst, arith}
-use Rattle.std.specs.List.{slice_range}
+use Rattle.std.proofs.Common.{◌-◌, ◌<◌, ◌⊎◌, ◌++◌, length, ap, ◌∙◌, sym, subst, arith}
 use Rattle.std.proofs.lemmas.Option.{MatchOption-at_none, MatchOption-at_some}
-use Rattle.std.proofs.lemmas.Result.{err_from_is_err_and}
-use Rattle.definitions.specs.Bits.{bits, packed}
+use Rattle.definitions.specs.Bits.{bits}
 use Rattle.faults.specs.declared.ExpandFault.TheVariants.{Refused}
 use Rattle.faults.specs.declared.Reason.TheVariants.{BooleanTooLong}
 use Rattle.firstcome.specs.declared.FirstCome.{FirstCome}
