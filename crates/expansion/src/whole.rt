@@ -21,10 +21,7 @@ use system::instance::Instance;
 use system::walk::Accepted;
 
 // The variables of all instances that come, the start's first.
-fn write_variables<G: Algebra>(
-    accepted: &Accepted<G>,
-    draft: &mut Draft,
-) -> Result<(), Unfinished>
+fn write_variables<G: Algebra>(accepted: &Accepted<G>, draft: &mut Draft) -> Result<(), Unfinished>
     ensures { (s : System) → length accepted.now.file.now ≤ 65536 → Outlined (G.meaning accepted.now.alg.now) accepted.now.file.now s accepted.now.outline.now → SystemFits (G.meaning accepted.now.alg.now) s → Numbers (G.meaning accepted.now.alg.now) s draft.old draft.new result }
 {
     draft.begin(accepted.outline.start)?;
