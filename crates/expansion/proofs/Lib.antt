@@ -2,3 +2,4 @@ pub mod Drafting
 pub mod Naming
 pub mod Counting
 pub mod Meanings
+pub mod Walking
