@@ -3,3 +3,4 @@ pub mod Naming
 pub mod Counting
 pub mod Meanings
 pub mod Walking
+pub mod Inside
