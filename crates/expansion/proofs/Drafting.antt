@@ -99,6 +99,9 @@ module _ (s : System) where
       Drafts s xs b old new r → Drafts s ys b old new r
   drafts_over xs ys b old new r e h = subst (λ (zs : List Instance). Drafts s zs b old new r) e h
 
+  pub forms_same : {T : Type 0} {ps qs : List (Form Instance)} → ps ≡ qs → (old new : Draft) (r : Result T Unfinished) → DraftsForms s ps old new r → DraftsForms s qs old new r
+  forms_same e old new r h = subst (λ (zs : List (Form Instance)). DraftsForms s zs old new r) e h
+
   -- one part, and then another
   pub drafts_then : {T : Type 0} (xs ys : List Instance) (b c : (Instance → ℕ) → List ℕ) (old mid new : Draft) (r : Result T Unfinished) → Asks xs b →
       Drafts {T = Unit {0}} s xs b old mid well → Drafts s ys c mid new r → Drafts s (xs ++ ys) (λ f. b f ++ c f) old new r
@@ -116,11 +119,10 @@ module _ (s : System) where
       (k first places (come ns xs) (bs ++ b (number_in (come ns xs))) (h first places ns bs d))
 
   -- where the first part finds no place, the whole finds none
-  pub drafts_stop : {T U : Type 0} (xs ys : List Instance) (b c : (Instance → ℕ) → List ℕ) (old mid new : Draft) (q : Result T Unfinished) (r : Result U Unfinished) → IsErr q → IsErr r →
-      Drafts s xs b old mid q → Drafts s (xs ++ ys) c old new r
-  drafts_stop xs ys b c old mid new (Ok x) r i j h = absurd cc
-  drafts_stop xs ys b c old mid new (Err x) (Ok y) i j h = absurd cc
-  drafts_stop xs ys b c old mid new (Err x) (Err y) i j h = λ first places ns bs d.
+  pub drafts_stop : {U : Type 0} (xs ys : List Instance) (b c : (Instance → ℕ) → List ℕ) (old mid new : Draft) (u : Unfinished) (r : Result U Unfinished) → IsErr r →
+      Drafts {T = Unit {0}} s xs b old mid (Err u) → Drafts s (xs ++ ys) c old new r
+  drafts_stop xs ys b c old mid new u (Ok y) j h = absurd cc
+  drafts_stop xs ys b c old mid new u (Err y) j h = λ first places ns bs d.
       let l = come_longer ns xs ys in
       let k = h first places ns bs d in
       omega arith
@@ -179,14 +181,14 @@ module _ (s : System) where
         drafts = written_snoc head w.done p old now new well w.drafts h;
       }
 
-  pub writing_stop : {T U : Type 0} (head : List ℕ) (ps : List (Form Instance)) (p : Form Instance) (left : List (Form Instance)) (old now mid new : Draft) (q : Result T Unfinished) (r : Result U Unfinished) → IsErr q → IsErr r →
-      Writing head ps (p ∷ left) old now → DraftsForm s p now mid q → Drafts s (vars_of ps) (λ f. head ++ all_bits_by ps f) old new r
-  writing_stop head ps p left old now mid new q r i j w h =
+  pub writing_stop : {U : Type 0} (head : List ℕ) (ps : List (Form Instance)) (p : Form Instance) (left : List (Form Instance)) (old now mid new : Draft) (u : Unfinished) (r : Result U Unfinished) → IsErr r →
+      Writing head ps (p ∷ left) old now → DraftsForm {T = Unit {0}} s p now mid (Err u) → Drafts s (vars_of ps) (λ f. head ++ all_bits_by ps f) old new r
+  writing_stop head ps p left old now mid new u r j w h =
       let e : vars_of ps ≡ vars_of (w.done ++ (p ∷ [])) ++ vars_of left =
       ap vars_of (w.whole ∙ sym (append_assoc w.done (p ∷ []) left)) ∙ vars_more (w.done ++ (p ∷ [])) left in
       drafts_over (vars_of (w.done ++ (p ∷ [])) ++ vars_of left) (vars_of ps) (λ f. head ++ all_bits_by ps f) old new r (sym e)
-      (drafts_stop (vars_of (w.done ++ (p ∷ []))) (vars_of left) (λ f. head ++ all_bits_by (w.done ++ (p ∷ [])) f) (λ f. head ++ all_bits_by ps f) old mid new q r i j
-      (written_snoc head w.done p old now mid q w.drafts h))
+      (drafts_stop (vars_of (w.done ++ (p ∷ []))) (vars_of left) (λ f. head ++ all_bits_by (w.done ++ (p ∷ [])) f) (λ f. head ++ all_bits_by ps f) old mid new u r j
+      (written_snoc {T = Unit {0}} head w.done p old now mid (Err u) w.drafts h))
 
   pub writing_end : {T : Type 0} (head : List ℕ) (ps left : List (Form Instance)) (old now : Draft) (x : T) → left ≡ [] → Writing head ps left old now →
       Drafts s (vars_of ps) (λ f. head ++ all_bits_by ps f) old now (Ok x)

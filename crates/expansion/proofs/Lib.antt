@@ -2,5 +2,7 @@ pub mod Drafting
 pub mod Naming
 pub mod Counting
 pub mod Meanings
-mod Walks
+pub mod Walking
+pub mod Inside
+mod Numbering
 mod Made

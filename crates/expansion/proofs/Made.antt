@@ -18,7 +18,7 @@ use Rattle.definitions.specs.Fits.{Every, SystemFits}
 use Rattle.definitions.specs.Boolean.{numbering, Expanded, made, refused, expand_system, expand_read}
 use Rattle.definitions.specs.Calls.{Delivered, Expanding}
 use Rattle.theorems.proofs.Repack.{whole_forth}
-use Rattle.theorems.proofs.Walking.{start_comes}
+use Rattle.theorems.proofs.Growing.{start_comes}
 use Rattle.theorems.proofs.Shipping.{content, expands_many, expands_long, expands_made}
 use Rattle.bits.specs.declared.writer.BitWriter.{BitWriter}
 use Rattle.bits.specs.declared.writer.Full.{Full}

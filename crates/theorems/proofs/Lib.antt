@@ -21,6 +21,7 @@ pub mod FitsF
 pub mod Forms
 pub mod Forth
 pub mod Goods
+pub mod Growing
 pub mod Histories
 pub mod KeepsC
 pub mod KeepsCut
@@ -54,7 +55,6 @@ pub mod Tight
 pub mod Tokens
 pub mod TruthsC
 pub mod UniqueFiles
-pub mod Walking
 pub mod Weights
 pub mod Whole
 pub mod Main

@@ -13,7 +13,7 @@ use Rattle.definitions.specs.Truth.{Instance}
 use Rattle.definitions.specs.Boolean.{numbering, Variable, variable_of, variable_bits, boolean_written, Expanded, made, refused, shipped, expand_system}
 use Rattle.theorems.proofs.Listing.{map_twice}
 use Rattle.theorems.proofs.Packs.{bytes_long}
-use Rattle.theorems.proofs.Walking.{member_bits}
+use Rattle.theorems.proofs.Growing.{member_bits}
 
 -- the cases of what is shipped
 module _ (places room : ℕ) (vs : List Variable) where

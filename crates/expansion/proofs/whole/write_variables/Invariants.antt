@@ -4,7 +4,7 @@ use Rattle.definitions.specs.Fits.{SystemFits}
 use Rattle.bits.specs.declared.writer.BitWriter.{BitWriter}
 use Rattle.system.specs.Whole.{Outlined}
 use Rattle.expansion.specs.Drafts.{Drafted}
-use Rattle.expansion.proofs.Walks.{Walks}
+use Rattle.expansion.proofs.Numbering.{Walks}
 use Rattle.expansion.proofs.whole.write_variables.Given as goal
 
 abbrev pub invariant-loop-k : goal.invariant-loop-k

@@ -9,7 +9,7 @@ use Rattle.definitions.specs.Truth.{Instance}
 use Rattle.definitions.specs.Boolean.{vars, form, come, numbering, number_in, renamed, sign_at, variable_of, variable_bits}
 use Rattle.definitions.specs.Fits.{Every, ValuesFit, SystemFits, header_of}
 use Rattle.theorems.proofs.Listing.{every_at, at_lt, at_map_some}
-use Rattle.theorems.proofs.Walking.{Walked, start_comes, walk_begins, walk_goes, walk_within, AllWalked, walk_ends, walk_full}
+use Rattle.theorems.proofs.Growing.{Walked, start_comes, walk_begins, walk_goes, walk_within, AllWalked, walk_ends, walk_full}
 use Rattle.bits.specs.declared.writer.BitWriter.{BitWriter}
 use Rattle.firstcome.specs.Coming.{listed}
 use Rattle.system.specs.declared.instance.Instance.{Instance as Kept}
