@@ -4,5 +4,6 @@ pub mod Counting
 pub mod Meanings
 pub mod Walking
 pub mod Inside
+mod Variables
 mod Numbering
 mod Made
