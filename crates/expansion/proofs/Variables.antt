@@ -10,7 +10,7 @@ use Rattle.definitions.specs.ReadSystem.{Header, read_body}
 use Rattle.definitions.specs.Written.{sign_bits}
 use Rattle.definitions.specs.Truth.{Instance}
 use Rattle.definitions.specs.Boolean.{vars, spread, inside_form, equation_form, form, form_bits, renamed, sign_at, variable_bits}
-use Rattle.definitions.specs.Fits.{Every, BodyFits, SystemFits, header_of}
+use Rattle.definitions.specs.Fits.{Every, SortFits, HeaderFits, BodyFits, SystemFits, header_of}
 use Rattle.theorems.proofs.Listing.{some_same, every_at, at_lt, at_mapped}
 use Rattle.terms.specs.declared.value.Environment.{Environment}
 use Rattle.terms.specs.Known.{Alike}
@@ -67,6 +67,10 @@ module _ (a : Alg) (f : List ℕ) (s : System) (o : Outline) (out : Outlined a f
 
   pub body_fits : BodyFits a (kept_headers o) fine.equation
   body_fits = subst (λ (hs : List Header). BodyFits a hs fine.equation) (sym out.headers) (every_at (BodyFits a (map header_of s.equations)) s.equations x.0 fine.equation fine.there fits.bodies)
+
+  pub quantified_fit : Every (λ (q : Quantified). SortFits a q.sort) fine.equation.quantified
+  quantified_fit =
+      (every_at (HeaderFits a) (map header_of s.equations) x.0 (header_of fine.equation) (at_mapped header_of s.equations x.0 fine.equation fine.there) fits.headers).quantified
 
   module _ (t : Told) (is : at (listed o.equations) x.0 ≡ Some t) where
     head : kept_header t.header ≡ header_of fine.equation
