@@ -4,3 +4,4 @@ pub mod Counting
 pub mod Meanings
 pub mod Walking
 pub mod Inside
+pub mod Values
