@@ -7,7 +7,7 @@ use Rattle.definitions.specs.Systems.{Quantifier, exists, forall, System}
 use Rattle.definitions.specs.Truth.{Instance}
 use Rattle.definitions.specs.Boolean.{Form, vars, over, come, number_in}
 use Rattle.definitions.specs.Fits.{Every}
-use Rattle.theorems.proofs.Coming.{numbers_stay, come_longer, bits_by, all_bits_by, vars_of, form_asks, forms_ask, vars_snoc, bits_snoc, vars_more, joined, any_bits, all_bits}
+use Rattle.theorems.proofs.Coming.{numbers_stay, come_longer, bits_by, all_bits_by, vars_of, form_asks, forms_ask, vars_snoc, bits_snoc, vars_more, any_bits, all_bits}
 use Rattle.bits.specs.declared.writer.BitWriter.{BitWriter}
 use Rattle.bits.specs.Back.{are_bits}
 use Rattle.bits.specs.declared.writer.Full.{Full}
@@ -18,7 +18,7 @@ use Rattle.firstcome.specs.Coming.{listed}
 use Rattle.system.specs.Walks.{Pairs}
 use Rattle.expansion.specs.declared.draft.Draft.{Draft}
 use Rattle.expansion.specs.declared.draft.Unfinished.{Unfinished}
-use Rattle.expansion.specs.Drafts.{StandsFor, WroteOn, Drafted, Puts, Drafts, DraftsForm, DraftsForms}
+use Rattle.expansion.specs.Drafts.{over_number, StandsFor, WroteOn, Drafted, Puts, Drafts, DraftsForm, DraftsForms}
 
 pub both_are : (bs cs : List ℕ) → are_bits bs ≡ true → are_bits cs ≡ true → are_bits (bs ++ cs) ≡ true
 both_are [] cs e k = k
@@ -198,6 +198,6 @@ module _ (s : System) where
 
   -- an all or an any of forms
   pub over_drafts : {T : Type 0} (q : Quantifier) (ps : List (Form Instance)) (n : ℕ) (old new : Draft) (r : Result T Unfinished) → n ≡ length ps →
-      Drafts s (vars_of ps) (λ f. (bits 3 (joined q) ++ bits 8 (n - 1)) ++ all_bits_by ps f) old new r → DraftsForm s (over q ps) old new r
+      Drafts s (vars_of ps) (λ f. (bits 3 (over_number q) ++ bits 8 (n - 1)) ++ all_bits_by ps f) old new r → DraftsForm s (over q ps) old new r
   over_drafts exists ps n old new r e h = drafts_same (vars_of ps) (λ f. (bits 3 3 ++ bits 8 (n - 1)) ++ all_bits_by ps f) (bits_by (over exists ps)) old new r (λ f. sym (any_bits ps n f e)) h
   over_drafts forall ps n old new r e h = drafts_same (vars_of ps) (λ f. (bits 3 2 ++ bits 8 (n - 1)) ++ all_bits_by ps f) (bits_by (over forall ps)) old new r (λ f. sym (all_bits ps n f e)) h

@@ -1,9 +1,10 @@
-pub mod Drafting
-pub mod Naming
-pub mod Counting
-pub mod Meanings
-pub mod Walking
-pub mod Inside
-mod Variables
-mod Numbering
+mod Counting
+mod Drafting
+mod Inside
 mod Made
+mod Meanings
+mod Naming
+mod Numbering
+mod Values
+mod Variables
+mod Walking

@@ -2,7 +2,7 @@
 use Rattle.std.specs.Prelude.{◌≡◌, ℕ, ◌+◌, ◌*◌, ◌/◌, ◌<◌, ◌≤◌, Bool, true, false, List, [], ◌∷◌, ◌++◌, length, take, drop, Some, None, Option, Ok, Err, Result}
 use Rattle.definitions.specs.Lists.{at}
 use Rattle.definitions.specs.Bits.{packed}
-use Rattle.definitions.specs.Systems.{Equation, System}
+use Rattle.definitions.specs.Systems.{Quantifier, exists, forall, Equation, System}
 use Rattle.definitions.specs.Truth.{Instance}
 use Rattle.definitions.specs.Boolean.{Form, forms, vars, vars_all, renamed, renamed_all, form_bits, forms_bits, come, number_in}
 use Rattle.definitions.specs.Fits.{Every}
@@ -36,6 +36,10 @@ token_number True = 1
 token_number All = 2
 token_number Any = 3
 token_number Variable = 4
+
+abbrev pub over_number : Quantifier → ℕ
+over_number exists = 3
+over_number forall = 2
 
 -- the bits are written from the first writer's place on, or they are too many for its bytes
 abbrev pub WroteOn : List ℕ → BitWriter → BitWriter → Bool → Type 0

@@ -1,7 +1,7 @@
 //! The body of an instance as tokens.
 ghost use Rattle.std.specs.Prelude.{◌≡◌, ℕ, ◌≤◌, List, [], map, drop, length, Some};
 ghost use Rattle.definitions.specs.Lists.{at as at_number, keep};
-ghost use Rattle.definitions.specs.Systems.{Term as Tree, Occurrence, Clause, Equation, System};
+ghost use Rattle.definitions.specs.Systems.{Term as Tree, Quantified as Variable, Occurrence, Clause, Equation, System};
 ghost use Rattle.definitions.specs.ReadSystem.{Scope, scope, greatest_depth};
 ghost use Rattle.definitions.specs.Values.{holds as is_true};
 ghost use Rattle.definitions.specs.Truth.{Instance as Meant, meant as occurrence_meant};
@@ -9,10 +9,10 @@ ghost use Rattle.definitions.specs.Boolean.{var, vars, renamed, clause_form, ins
 ghost use Rattle.definitions.specs.Fits.{SystemFits, BodyFits, SortFits, Every, header_of};
 ghost use Rattle.terms.specs.Shapes.{standing};
 ghost use Rattle.rows.specs.Listed.{listed};
-ghost use Rattle.system.specs.Files.{kept_quantified};
+ghost use Rattle.system.specs.Files.{kept_quantifier, kept_quantified};
 ghost use Rattle.system.specs.Whole.{kept_headers, Outlined};
 ghost use Rattle.system.specs.Walks.{Pairs, OccurrenceOf, BodyOf};
-ghost use Rattle.expansion.specs.Drafts.{StandsFor, Fine, Drafts, DraftsForm, DraftsForms};
+ghost use Rattle.expansion.specs.Drafts.{token_number, over_number, StandsFor, Fine, Drafts, DraftsForm, DraftsForms};
 ghost use Rattle.expansion.specs.Bodies.{Bound, OccurrenceThere, ClauseThere};
 
 use crate::draft::{Draft, Token, Unfinished};
@@ -132,6 +132,16 @@ fn write_inside<G: Algebra>(
     write_clauses(accepted, env, clauses.as_slice(), draft)
 }
 
+// The token that stands for the quantifier.
+fn token_over(quantifier: Quantifier) -> Token
+    ensures { token_number result ≡ over_number (kept_quantifier quantifier) }
+{
+    match quantifier {
+        Quantifier::ForAll => Token::All,
+        Quantifier::Exists => Token::Any,
+    }
+}
+
 // All or any over the values of each quantified variable from the one numbered `level` on, ascending.
 fn write_quantified<G: Algebra>(
     accepted: &Accepted<G>,
@@ -141,21 +151,17 @@ fn write_quantified<G: Algebra>(
     body: BodyAt,
     draft: &mut Draft,
 ) -> Result<(), Unfinished>
-    ensures { (s : System) (e : Equation) (q : ℕ) (ps vs : List ℕ) → length accepted.now.file.now ≤ 65536 → kept_headers accepted.now.outline.now ≡ map header_of s.equations → e.quantified ≡ map kept_quantified (listed variables.now) → length vs ≡ level → Bound ps vs env → BodyOf (G.meaning accepted.now.alg.now) (kept_headers accepted.now.outline.now) (header_of e) accepted.now.file.now e q body → BodyFits (G.meaning accepted.now.alg.now) (kept_headers accepted.now.outline.now) e → DraftsForm s (spread (G.meaning accepted.now.alg.now) (drop level e.quantified) vs (inside_form (G.meaning accepted.now.alg.now) e ps)) draft.old draft.new result }
+    ensures { (s : System) (e : Equation) (q : ℕ) (ps vs : List ℕ) → length accepted.now.file.now ≤ 65536 → kept_headers accepted.now.outline.now ≡ map header_of s.equations → e.quantified ≡ map kept_quantified (listed variables.now) → Every (λ (k : Variable). SortFits (G.meaning accepted.now.alg.now) k.sort) e.quantified → length vs ≡ level → Bound ps vs env → BodyOf (G.meaning accepted.now.alg.now) (kept_headers accepted.now.outline.now) (header_of e) accepted.now.file.now e q body → BodyFits (G.meaning accepted.now.alg.now) (kept_headers accepted.now.outline.now) e → DraftsForm s (spread (G.meaning accepted.now.alg.now) (drop level e.quantified) vs (inside_form (G.meaning accepted.now.alg.now) e ps)) draft.old draft.new result }
 {
     if level >= variables.len() {
         return write_inside(accepted, &env, body, draft);
     }
     let variable = variables.as_slice()[level];
     let size = accepted.alg.size(variable.sort).ok_or(Unfinished)?;
-    let token = match variable.quantifier {
-        Quantifier::ForAll => Token::All,
-        Quantifier::Exists => Token::Any,
-    };
-    draft.put_parts(token, size as u32);
-    for value in (0..=u8::MAX).take(size as usize) {
+    draft.put_parts(token_over(variable.quantifier), size as u32);
+    for value in 0..size {
         let mut inner = env;
-        inner.variables[level] = Some(value);
+        inner.variables[level] = Some(value as u8);
         write_quantified(accepted, variables, level + 1, inner, body, draft)?;
     }
     Ok(())

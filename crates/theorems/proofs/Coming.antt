@@ -2,7 +2,6 @@
 use Rattle.std.proofs.Common.{◌≡◌, ℕ, zero, suc, ◌+◌, ◌-◌, ◌≤◌, Bool, true, false, List, [], ◌∷◌, ◌++◌, map, length, Some, sym, refl, ap, ◌∙◌, ap₂, true≢false, append_assoc, append-nil, arith, length-append}
 use Rattle.definitions.specs.Lists.{at, some, keep}
 use Rattle.definitions.specs.Bits.{bits}
-use Rattle.definitions.specs.Systems.{Quantifier, exists, forall}
 use Rattle.definitions.specs.Truth.{Instance}
 use Rattle.definitions.specs.Boolean.{Form, known, all, any, var, Forms, nil, cons, forms, count, vars, vars_all, renamed, renamed_all, same_instance, come, number_in, form_bits, forms_bits}
 use Rattle.definitions.specs.Fits.{Every}
@@ -74,10 +73,6 @@ vars_more [] qs = refl
 vars_more (p ∷ ps) qs = ap (λ xs. vars p ++ xs) (vars_more ps qs) ∙ sym (append_assoc (vars p) (vars_of ps) (vars_of qs))
 
 -- all and any of a list of forms
-abbrev pub joined : Quantifier → ℕ
-joined exists = 3
-joined forall = 2
-
 many : (ps : List (Form Instance)) → count (forms ps) ≡ length ps
 many [] = refl
 many (p ∷ ps) = ap suc (many ps)

@@ -6,7 +6,7 @@ use Rattle.definitions.specs.Fits.{header_of}
 use Rattle.rows.specs.Listed.{listed}
 use Rattle.system.specs.Whole.{kept_headers}
 use Rattle.system.specs.Walks.{Found, BodyOf}
-use Rattle.expansion.proofs.Variables.{sign_small, got_at, equation_there, equation_small, body_fits, body_read, quantified_kept, bound_none, variable_drafts}
+use Rattle.expansion.proofs.Variables.{sign_small, got_at, equation_there, equation_small, body_fits, body_read, quantified_fit, quantified_kept, bound_none, variable_drafts}
 use Rattle.expansion.proofs.body.write_variable.Goals as goal
 
 pub returns-in_err-equation : goal.returns-in_err-equation
@@ -40,5 +40,5 @@ returns g c = λ s x short out fits f h.
     let r = body_read a file s o out fits x f t is in
     let b = subst (λ b. Found b (BodyOf a (kept_headers o) (header_of f.equation) file f.equation r.0)) c.in_ok-body.ensures.ok_part (c.open_body.ensures.found (kept_headers o) (header_of f.equation) f.equation r.0 short r.1) in
     let bound = bound_none a file s o out fits x f t is k c.len.result c.known.result _ h c.len.ensures.count c.known.ensures refl in
-    let w = c.write_quantified.ensures s f.equation r.0 x.1 [] short out.headers (quantified_kept a file s o out fits x f t is) refl bound b (body_fits a file s o out fits x f) in
+    let w = c.write_quantified.ensures s f.equation r.0 x.1 [] short out.headers (quantified_kept a file s o out fits x f t is) (quantified_fit a file s o out fits x f) refl bound b (body_fits a file s o out fits x f) in
     variable_drafts a file s o out fits x f t is k c.args.draft.now c.put.new.self c.put-2.new.self c.write_quantified.new.draft c.write_quantified.result h (c.put.ensures (omega arith) (sign_small t.header.sign)) (c.put-2.ensures (omega arith) (let l = equation_small a file s o out fits x f in let e = h.equation in omega arith)) w
