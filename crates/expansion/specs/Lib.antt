@@ -1,2 +1,4 @@
+pub mod Bodies
 pub mod Fronts
 pub mod Drafts
+pub mod Whole

@@ -6,6 +6,7 @@ pub mod Blocks
 pub mod BooleanBack
 pub mod BooleanForth
 pub mod Closing
+pub mod Coming
 pub mod Cut
 pub mod Enough
 pub mod Evaluates
@@ -22,6 +23,7 @@ pub mod Forms
 pub mod Forth
 pub mod Goods
 pub mod Gathered
+pub mod Growing
 pub mod Histories
 pub mod KeepsC
 pub mod KeepsCut
@@ -45,6 +47,7 @@ pub mod Rounding
 pub mod RoundStrict
 pub mod Settled
 pub mod Shapes
+pub mod Shipping
 pub mod Solutions
 pub mod Sounds
 pub mod Stable
