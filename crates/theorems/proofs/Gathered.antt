@@ -1,16 +1,16 @@
 -- Lists in which each record stands once, and what is in those that are closed under what R and U follow.
-use Rattle.std.proofs.Common.{◌≡◌, ℕ, zero, suc, ◌+◌, ◌*◌, ◌<◌, ◌≤◌, Bool, true, false, ◌||◌, eqb, List, [], ◌∷◌, map, length, get_or, Some, Option, sym, refl, ap, ◌∙◌, subst, true≢false, arith}
+use Rattle.std.proofs.Common.{◌≡◌, ℕ, zero, suc, ◌+◌, ◌<◌, ◌≤◌, Bool, true, false, ◌||◌, eqb, List, [], ◌∷◌, map, length, get_or, Some, sym, refl, ap, ◌∙◌, subst, true≢false, arith}
 use mathlib.Core.Bool.{false≢true}
 use mathlib.Core.List.Memᴰ
 use mathlib.Core.List.{Memᴰ}
 use lib.ListN.{length-map}
 use Rattle.definitions.specs.Lists.{at, some, flat, from, up_to, strike}
-use Rattle.definitions.specs.Systems.{Term, Occurrence, Clause, Equation, System}
+use Rattle.definitions.specs.Systems.{Term, Occurrence, Equation, System}
 use Rattle.definitions.specs.Solution.{iter}
 use Rattle.definitions.specs.Passes.{occurs_in, marked, occurrences, calls, chained, reachable, needed}
 use Rattle.definitions.specs.Reach.{ReachesMark, is_marked, leads_on, ReachedEquation, is_start, is_called}
 use Rattle.theorems.proofs.Closing.{times_iter}
-use Rattle.theorems.proofs.Listing.{none_some, some_same, at_lt, at_map_some, from_long}
+use Rattle.theorems.proofs.Listing.{none_some, some_same, at_map_some, from_long}
 use Rattle.theorems.proofs.Numbers.{Has}
 use Rattle.theorems.proofs.Marks.{true_low}
 use Rattle.theorems.proofs.Reaching.{reaches_mark}
