@@ -29,7 +29,6 @@ use Rattle.expansion.specs.declared.Expansion.{Expansion}
 use Rattle.expansion.specs.declared.draft.Draft.{Draft}
 use Rattle.expansion.specs.declared.draft.Unfinished.{Unfinished}
 use Rattle.expansion.specs.Drafts.{Drafted, Shut}
-use Rattle.expansion.specs.Fronts.{Expands}
 use Rattle.expansion.specs.Whole.{variables_bits, Numbers, HandsOver, told}
 
 -- one answer or another
@@ -145,11 +144,6 @@ was_read a f before after work o r law bytes h makes =
     let (s, (got, out)) = h in
     let short = got_short a f s got in
     subst (λ g. Expanding (expand_read a work (length before) g) before after (told r)) (sym got) (makes s (omega arith) out (whole_forth a law f bytes s got).1)
-
--- what that says of the buffer alone
-pub fronted : (o : Expanded) (before after : List ℕ) (r : Result Expansion ExpandFault) → Expanding o before after (told r) → Expands before after r
-fronted o before after (Ok x) h = (h.file, h.put)
-fronted o before after (Err e) h = h.kept
 
 -- the items of a list of bytes
 pub bytes_each : (f : List ℕ) → ((i : ℕ) → get_or f i 0 < 256) → Every (λ x. x < 256) f

@@ -1,4 +1,3 @@
 pub mod Bodies
-pub mod Fronts
 pub mod Drafts
 pub mod Whole

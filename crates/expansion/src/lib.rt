@@ -6,7 +6,6 @@ ghost use Rattle.std.specs.Prelude.{length};
 ghost use Rattle.definitions.specs.Boolean.{expand_read};
 ghost use Rattle.definitions.specs.ReadSystem.{reading};
 ghost use Rattle.definitions.specs.Calls.{Expanding};
-ghost use Rattle.expansion.specs.Fronts.{Expands};
 ghost use Rattle.expansion.specs.Whole.{told};
 
 mod body;
@@ -41,8 +40,7 @@ pub fn expand<G: Algebra>(
     work: &mut [Instance],
     out: &mut [u8],
 ) -> Result<Expansion, ExpandFault>
-    ensures fronts { Expands out.old out.new result }
-    ensures meant { Expanding (expand_read (G.meaning alg.now) (length work.old) (length out.old) (reading (G.meaning alg.now) file.now)) out.old out.new (told result) }
+    ensures { Expanding (expand_read (G.meaning alg.now) (length work.old) (length out.old) (reading (G.meaning alg.now) file.now)) out.old out.new (told result) }
 {
     let outline = read(alg, file)?;
     let accepted = Accepted {

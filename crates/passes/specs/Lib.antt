@@ -1,5 +1,4 @@
 pub mod Comes
-pub mod Fronts
 pub mod Learned
 pub mod Letters
 pub mod Meanings
