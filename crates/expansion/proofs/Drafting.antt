@@ -1,13 +1,12 @@
 -- What a draft becomes as parts are written one after the other.
 use Rattle.std.specs.Result.{is_err}
 use Rattle.std.proofs.Common.{◌≡◌, ℕ, ◌+◌, ◌*◌, ◌-◌, ◌<◌, ◌≤◌, Bool, true, false, List, [], ◌∷◌, ◌++◌, map, length, Ok, Err, Result, IsErr, sym, refl, ap, ◌∙◌, subst, append_assoc, append-nil, arith}
-use Rattle.definitions.specs.Lists.{keep}
 use Rattle.definitions.specs.Bits.{bits}
 use Rattle.definitions.specs.Systems.{Quantifier, exists, forall, System}
 use Rattle.definitions.specs.Truth.{Instance}
 use Rattle.definitions.specs.Boolean.{Form, vars, over, come, number_in}
 use Rattle.definitions.specs.Fits.{Every}
-use Rattle.theorems.proofs.Coming.{numbers_stay, come_longer, bits_by, all_bits_by, vars_of, form_asks, forms_ask, vars_snoc, bits_snoc, vars_more, any_bits, all_bits}
+use Rattle.theorems.proofs.Coming.{numbers_stay, come_longer, bits_by, all_bits_by, vars_of, forms_ask, vars_snoc, bits_snoc, vars_more, any_bits, all_bits}
 use Rattle.bits.specs.declared.writer.BitWriter.{BitWriter}
 use Rattle.bits.specs.Back.{are_bits}
 use Rattle.bits.specs.declared.writer.Full.{Full}

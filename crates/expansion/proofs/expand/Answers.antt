@@ -1,4 +1,4 @@
-use Rattle.std.proofs.Common.{length, Ok, Err, refl, subst, ap, ◌∙◌, arith}
+use Rattle.std.proofs.Common.{length, Err, refl, subst, ap, ◌∙◌, arith}
 use Rattle.std.proofs.lemmas.Result.{err_from_is_err_and}
 use Rattle.definitions.specs.Boolean.{expand_read}
 use Rattle.definitions.specs.ReadSystem.{reading}
