@@ -60,13 +60,12 @@ pub put_goes : (cs : List ℕ) (w new : BitWriter) (t u : Bool) (r : Result (Uni
 put_goes cs w new t u (Ok x) e k h = on_ok cs w new t u e k h
 put_goes cs w new t u (Err x) e k h = on_full cs w new t u e k h
 
-pub puts_by : (cs : List ℕ) (old new : Draft) → are_bits cs ≡ true → new.list ≡ old.list → new.writer.bytes.ghost_name ≡ old.writer.bytes.ghost_name →
+pub puts_by : (cs : List ℕ) (old new : Draft) → are_bits cs ≡ true → new.list ≡ old.list →
     WritesOn cs old.writer new.writer old.too_long new.too_long → Puts cs old new
-puts_by cs old new a l n w s first places ns bs d =
+puts_by cs old new a l w s first places ns bs d =
     record {
       short = d.short;
       bytes = d.bytes;
-      named = n ∙ d.named;
       slice = ap (λ k. length k.items.now) l ∙ d.slice;
       few = d.few;
       count = ap (λ k. k.len) l ∙ d.count;

@@ -176,7 +176,6 @@ module _ (s : System) where
           drafted = record {
             short = d.short;
             bytes = d.bytes;
-            named = d.named;
             slice = slice;
             few = d.few;
             count = count;
