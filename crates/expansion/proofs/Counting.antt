@@ -5,7 +5,7 @@ use Rattle.std.proofs.lemmas.Bool.{cases_lt}
 use Rattle.definitions.specs.Bits.{bit_at, Stands, bits, packed}
 use Rattle.theorems.proofs.Packs.{bytes_long}
 use Rattle.bits.specs.declared.writer.BitWriter.{BitWriter}
-use Rattle.bits.specs.Back.{Bytes, are_bits, Written}
+use Rattle.bits.specs.Back.{Bytes, are_bits}
 use Rattle.bits.specs.Put.{overwritten, closed}
 use Rattle.bits.specs.declared.writer.Full.{Full}
 use Rattle.bits.specs.Writes.{Wrote, NoRoom, Writes}

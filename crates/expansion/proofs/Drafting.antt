@@ -1,13 +1,12 @@
 -- What a draft becomes as parts are written one after the other.
 use Rattle.std.specs.Result.{is_err}
 use Rattle.std.proofs.Common.{◌≡◌, ℕ, ◌+◌, ◌*◌, ◌-◌, ◌<◌, ◌≤◌, Bool, true, false, List, [], ◌∷◌, ◌++◌, map, length, Ok, Err, Result, IsErr, sym, refl, ap, ◌∙◌, subst, append_assoc, append-nil, arith}
-use Rattle.definitions.specs.Lists.{keep}
 use Rattle.definitions.specs.Bits.{bits}
 use Rattle.definitions.specs.Systems.{Quantifier, exists, forall, System}
 use Rattle.definitions.specs.Truth.{Instance}
 use Rattle.definitions.specs.Boolean.{Form, vars, over, come, number_in}
 use Rattle.definitions.specs.Fits.{Every}
-use Rattle.theorems.proofs.Coming.{numbers_stay, come_longer, bits_by, all_bits_by, vars_of, form_asks, forms_ask, vars_snoc, bits_snoc, vars_more, any_bits, all_bits}
+use Rattle.theorems.proofs.Coming.{numbers_stay, come_longer, bits_by, all_bits_by, vars_of, forms_ask, vars_snoc, bits_snoc, vars_more, any_bits, all_bits}
 use Rattle.bits.specs.declared.writer.BitWriter.{BitWriter}
 use Rattle.bits.specs.Back.{are_bits}
 use Rattle.bits.specs.declared.writer.Full.{Full}
@@ -61,13 +60,12 @@ pub put_goes : (cs : List ℕ) (w new : BitWriter) (t u : Bool) (r : Result (Uni
 put_goes cs w new t u (Ok x) e k h = on_ok cs w new t u e k h
 put_goes cs w new t u (Err x) e k h = on_full cs w new t u e k h
 
-pub puts_by : (cs : List ℕ) (old new : Draft) → are_bits cs ≡ true → new.list ≡ old.list → new.writer.bytes.ghost_name ≡ old.writer.bytes.ghost_name →
+pub puts_by : (cs : List ℕ) (old new : Draft) → are_bits cs ≡ true → new.list ≡ old.list →
     WritesOn cs old.writer new.writer old.too_long new.too_long → Puts cs old new
-puts_by cs old new a l n w s first places ns bs d =
+puts_by cs old new a l w s first places ns bs d =
     record {
       short = d.short;
       bytes = d.bytes;
-      named = n ∙ d.named;
       slice = ap (λ k. length k.items.now) l ∙ d.slice;
       few = d.few;
       count = ap (λ k. k.len) l ∙ d.count;

@@ -1,14 +1,12 @@
 -- A kept instance that comes, and the number that it gets.
 use Rattle.std.specs.Cmp.Rules.{comparing}
 use Rattle.std.proofs.Common.{rules, Decides, ◌≡◌, ℕ, zero, suc, ◌+◌, ◌*◌, ◌-◌, ◌<◌, ◌≤◌, Bool, true, false, List, [], ◌∷◌, ◌++◌, length, take, replicate, Some, None, Option, Ok, Err, Result, IsErr, sym, refl, ap, ◌∙◌, subst, ap₂, append-nil, arith, length-append}
-use Rattle.std.proofs.lemmas.Bool.{eqb-true}
 use Rattle.definitions.specs.Lists.{at, some}
 use Rattle.std.specs.Option.{is_some}
 use Rattle.definitions.specs.Systems.{Equation, System}
 use Rattle.definitions.specs.Truth.{Instance}
 use Rattle.definitions.specs.Boolean.{same_instance, come, number_in}
 use Rattle.definitions.specs.Fits.{Every}
-use Rattle.fixpoint.proofs.Pull.{every_append}
 use Rattle.theorems.proofs.Listing.{some_same}
 use Rattle.theorems.proofs.Numbers.{instance_eq, instance_same}
 use Rattle.bits.specs.declared.writer.BitWriter.{BitWriter}
@@ -17,10 +15,9 @@ use Rattle.system.specs.Instances.{same_instance as same}
 use Rattle.system.specs.Bodies.{padded}
 use Rattle.system.specs.Walks.{Pairs}
 use Rattle.firstcome.specs.declared.FirstCome.{FirstCome}
-use Rattle.firstcome.specs.Coming.{listed, place_from, place_of, Came, NoPlace, Comes}
+use Rattle.firstcome.specs.Coming.{listed, place_from, place_of, Came, NoPlace}
 use Rattle.expansion.specs.declared.draft.Draft.{Draft}
-use Rattle.expansion.specs.declared.draft.Unfinished.{Unfinished}
-use Rattle.expansion.specs.Drafts.{Fine, StandsFor, Drafted, Drafts}
+use Rattle.expansion.specs.Drafts.{Fine, StandsFor, Drafted}
 
 -- values of one length are told apart by what is kept of them
 front_same : (vs ws xs ys : List ℕ) → length vs ≡ length ws → vs ++ xs ≡ ws ++ ys → vs ≡ ws
@@ -179,7 +176,6 @@ module _ (s : System) where
           drafted = record {
             short = d.short;
             bytes = d.bytes;
-            named = d.named;
             slice = slice;
             few = d.few;
             count = count;

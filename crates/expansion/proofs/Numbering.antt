@@ -1,14 +1,14 @@
 -- Walking the list of a draft while it grows.
-use Rattle.std.proofs.Common.{◌≡◌, ℕ, zero, suc, ◌+◌, ◌<◌, ◌≤◌, List, [], ◌∷◌, ◌++◌, length, Some, None, Option, Ok, Err, Result, sym, refl, ap, ◌∙◌, subst, arith}
+use Rattle.std.proofs.Common.{◌≡◌, ℕ, zero, suc, ◌<◌, ◌≤◌, List, [], ◌∷◌, ◌++◌, length, Some, None, Ok, Err, Result, sym, refl, ap, ◌∙◌, subst, arith}
 use Rattle.definitions.specs.Lists.{at}
 use Rattle.definitions.specs.Alg.{Alg}
 use Rattle.definitions.specs.Bits.{bits}
 use Rattle.definitions.specs.Systems.{System}
 use Rattle.definitions.specs.ReadSystem.{Header}
 use Rattle.definitions.specs.Truth.{Instance}
-use Rattle.definitions.specs.Boolean.{vars, form, come, numbering, number_in, renamed, sign_at, variable_of, variable_bits}
-use Rattle.definitions.specs.Fits.{Every, ValuesFit, SystemFits, header_of}
-use Rattle.theorems.proofs.Listing.{every_at, at_lt, at_map_some}
+use Rattle.definitions.specs.Boolean.{vars, form, come, numbering, renamed, sign_at, variable_of, variable_bits}
+use Rattle.definitions.specs.Fits.{ValuesFit, SystemFits, header_of}
+use Rattle.theorems.proofs.Listing.{every_at, at_map_some}
 use Rattle.theorems.proofs.Growing.{Walked, start_comes, walk_begins, walk_goes, walk_within, AllWalked, walk_ends, walk_full}
 use Rattle.bits.specs.declared.writer.BitWriter.{BitWriter}
 use Rattle.firstcome.specs.Coming.{listed}
@@ -19,7 +19,7 @@ use Rattle.system.specs.Whole.{Outlined}
 use Rattle.expansion.specs.declared.draft.Draft.{Draft}
 use Rattle.expansion.specs.declared.draft.Unfinished.{Unfinished}
 use Rattle.expansion.specs.Drafts.{Fine, StandsFor, Drafted, Drafts}
-use Rattle.expansion.specs.Whole.{variables_bits, Numbers}
+use Rattle.expansion.specs.Whole.{variables_bits}
 
 -- the instance of the start is one of the system's, and the kept one stands for it
 values_long : (a : Alg) (ss vs : List ℕ) → ValuesFit a ss vs → length vs ≡ length ss

@@ -1,6 +1,6 @@
 -- The equation of an instance in the file, and the variable that is written of it.
 use denote.Enum.Declared.{tag_of}
-use Rattle.std.proofs.Common.{◌≡◌, ℕ, zero, suc, ◌+◌, ◌-◌, ◌<◌, ◌≤◌, List, [], ◌∷◌, ◌++◌, map, length, get_or, take, drop, replicate, Some, None, Option, Ok, Err, Result, Bor, IfSome, sym, refl, ap, ◌∙◌, subst, append_assoc, arith}
+use Rattle.std.proofs.Common.{◌≡◌, ℕ, zero, suc, ◌-◌, ◌<◌, List, [], ◌∷◌, ◌++◌, map, length, get_or, take, replicate, Some, None, Option, Result, Bor, IfSome, sym, refl, ap, ◌∙◌, subst, append_assoc, arith}
 use Rattle.definitions.specs.Lists.{at}
 use Rattle.definitions.specs.Alg.{Alg}
 use Rattle.definitions.specs.Bits.{bits}
@@ -12,7 +12,6 @@ use Rattle.definitions.specs.Truth.{Instance}
 use Rattle.definitions.specs.Boolean.{vars, spread, inside_form, equation_form, form, form_bits, renamed, sign_at, variable_bits}
 use Rattle.definitions.specs.Fits.{Every, SortFits, HeaderFits, BodyFits, SystemFits, header_of}
 use Rattle.theorems.proofs.Listing.{some_same, every_at, at_lt, at_mapped}
-use Rattle.terms.specs.declared.value.Environment.{Environment}
 use Rattle.terms.specs.Known.{Alike}
 use Rattle.rows.specs.Listed.{listed}
 use Rattle.system.specs.declared.header.Sign.{Sign}
@@ -21,7 +20,6 @@ use Rattle.system.specs.contracts.header.Sign.{the_type}
 use Rattle.system.specs.declared.outline.Equation.{Equation as Told}
 use Rattle.system.specs.declared.outline.Outline.{Outline}
 use Rattle.system.specs.declared.instance.Instance.{Instance as Kept}
-use Rattle.system.specs.Bodies.{padded}
 use Rattle.system.specs.Files.{kept_sign, kept_header, kept_quantified}
 use Rattle.system.specs.Whole.{kept_headers, Outlined}
 use Rattle.expansion.specs.declared.draft.Draft.{Draft}

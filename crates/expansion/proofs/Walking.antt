@@ -13,7 +13,7 @@ use Rattle.system.specs.Walks.{Pairs}
 use Rattle.expansion.specs.declared.draft.Draft.{Draft}
 use Rattle.expansion.specs.declared.draft.Unfinished.{Unfinished}
 use Rattle.expansion.specs.Drafts.{Fine, DraftsForm, DraftsForms}
-use Rattle.expansion.proofs.Drafting.{Writing, well, writing_here, writing_next, writing_stop, writing_end}
+use Rattle.expansion.proofs.Drafting.{Writing, writing_here, writing_next, writing_stop, writing_end}
 
 -- the item of a loop over a slice, and what is behind it
 pub item : {A : Type 0} (xs : List A) (i : ℕ) (x : A) → i < length xs → x ≡ get_or xs i x → drop i xs ≡ x ∷ drop (i + 1) xs

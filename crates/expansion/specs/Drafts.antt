@@ -1,5 +1,5 @@
 -- What a draft holds, and what writing a part of the Boolean file makes of it.
-use Rattle.std.specs.Prelude.{◌≡◌, ℕ, ◌+◌, ◌*◌, ◌/◌, ◌<◌, ◌≤◌, Bool, true, false, List, [], ◌∷◌, ◌++◌, length, take, drop, Some, None, Option, Ok, Err, Result}
+use Rattle.std.specs.Prelude.{◌≡◌, ℕ, ◌+◌, ◌*◌, ◌<◌, ◌≤◌, Bool, true, false, List, ◌++◌, length, drop, Some, None, Option, Ok, Err, Result}
 use Rattle.definitions.specs.Lists.{at}
 use Rattle.definitions.specs.Bits.{packed}
 use Rattle.definitions.specs.Systems.{Quantifier, exists, forall, Equation, System}
@@ -50,7 +50,6 @@ WroteOn bs first w false = Wrote bs first w
 pub record Drafted (s : System) (first : BitWriter) (places : ℕ) (ns : List Instance) (bs : List ℕ) (d : Draft) : Type 0 where
   pub short : length first.bytes.now ≤ 65536
   pub bytes : Bytes first.bytes.now
-  pub named : d.writer.bytes.ghost_name ≡ first.bytes.ghost_name
   pub slice : length d.list.items.now ≡ places
   pub few : places ≤ 4096
   pub count : d.list.len ≡ length ns
@@ -74,7 +73,6 @@ Drafts s xs b old new (Err e) =
 
 -- the bits stand packed in front of the bytes that the first writer had, or they are too many for them
 pub record Shut (first : BitWriter) (bs : List ℕ) (w : BitWriter) (len : ℕ) : Type 0 where
-  pub named : w.bytes.ghost_name ≡ first.bytes.ghost_name
   pub long : len ≡ length (packed bs)
   pub within : len ≤ length first.bytes.now
   pub file : w.bytes.now ≡ packed bs ++ drop len first.bytes.now

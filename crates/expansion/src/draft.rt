@@ -38,7 +38,6 @@ impl<'a, 'b> Draft<'a, 'b> {
         ensures fresh { (s : System) → length places.old ≤ 4096 → length bytes.old ≤ 65536 → Drafted s result.writer (length places.old) [] [] result }
         ensures front { result.writer.at ≡ 0 }
         ensures same { result.writer.bytes.now ≡ bytes.old }
-        ensures named { result.writer.bytes.ghost_name ≡ bytes.entry.ghost_name }
     {
         Draft {
             list: FirstCome::new(places),

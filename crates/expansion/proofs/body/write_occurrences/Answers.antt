@@ -1,5 +1,4 @@
 use Rattle.std.proofs.Common.{◌≡◌, ℕ, ◌+◌, ◌≤◌, true, List, drop, length, refl, ap, arith, drop_of_length-le}
-use Rattle.std.proofs.lemmas.List.{append-nil}
 use Rattle.definitions.specs.Systems.{Occurrence}
 use Rattle.definitions.specs.Truth.{meant}
 use Rattle.definitions.specs.Boolean.{var}

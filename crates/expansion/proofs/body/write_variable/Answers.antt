@@ -1,7 +1,5 @@
-use Rattle.std.proofs.Common.{◌≡◌, ℕ, ◌<◌, ◌≤◌, List, [], length, Some, refl, sym, ap, ◌∙◌, subst, arith}
+use Rattle.std.proofs.Common.{◌≤◌, [], length, refl, ap, subst, arith}
 use Rattle.std.proofs.lemmas.Option.{MatchOption-at_none}
-use Rattle.definitions.specs.Alg.{Alg}
-use Rattle.definitions.specs.ReadSystem.{Header}
 use Rattle.definitions.specs.Fits.{header_of}
 use Rattle.rows.specs.Listed.{listed}
 use Rattle.system.specs.Whole.{kept_headers}

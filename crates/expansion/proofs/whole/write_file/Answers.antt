@@ -1,11 +1,9 @@
-use Rattle.std.proofs.Common.{rules, ◌≡◌, ℕ, ◌-◌, ◌≤◌, ◌++◌, List, length, min, take, Ok, Err, refl, ap, ◌∙◌, sym, subst, arith}
+use Rattle.std.proofs.Common.{rules, ◌≡◌, ◌-◌, length, min, take, Err, refl, ap, ◌∙◌, sym, arith}
 use Rattle.std.proofs.lemmas.Result.{err_from_is_err_and}
 use Rattle.faults.specs.declared.ExpandFault.TheVariants.{Refused}
 use Rattle.faults.specs.declared.Reason.TheVariants.{TooManyInstances}
-use Rattle.definitions.specs.Bits.{bits}
-use Rattle.definitions.specs.Boolean.{numbering, expand_system}
-use Rattle.definitions.specs.Calls.{Expanding}
-use Rattle.expansion.specs.Whole.{variables_bits, told}
+use Rattle.definitions.specs.Boolean.{numbering}
+use Rattle.expansion.specs.Whole.{variables_bits}
 use Rattle.expansion.proofs.Made.{few_places, too_many, all_written, handed}
 use Rattle.expansion.proofs.whole.write_file.Goals as goal
 

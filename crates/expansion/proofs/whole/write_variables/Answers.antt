@@ -1,4 +1,4 @@
-use Rattle.std.proofs.Common.{ℕ, ◌+◌, ◌<◌, ◌≤◌, length, sym, ◌∙◌, subst, add-one}
+use Rattle.std.proofs.Common.{sym, ◌∙◌, subst, add-one}
 use Rattle.std.proofs.lemmas.Result.{err_from_is_err_and}
 use Rattle.expansion.proofs.Numbering.{Walks, start_fine, start_stands, start_short, walks_begin, walks_next, walks_short, walks_end, walks_full}
 use Rattle.expansion.proofs.whole.write_variables.Goals as goal

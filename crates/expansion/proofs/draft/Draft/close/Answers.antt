@@ -1,9 +1,9 @@
-use Rattle.std.proofs.Common.{◌≡◌, ℕ, ◌-◌, ◌+◌, ◌*◌, ◌<◌, ◌≤◌, true, false, List, ◌++◌, length, sym, refl, ap, ◌∙◌, subst, arith}
-use Rattle.definitions.specs.Bits.{bits, packed}
+use Rattle.std.proofs.Common.{◌≡◌, ◌-◌, ◌++◌, length, refl, ap, ◌∙◌, subst, arith}
+use Rattle.definitions.specs.Bits.{bits}
 use Rattle.bits.specs.declared.writer.BitWriter.{BitWriter}
 use Rattle.bits.specs.Put.{overwritten, closed}
-use Rattle.bits.specs.Writes.{Wrote, NoRoom}
-use Rattle.expansion.specs.Drafts.{WroteOn, Closes}
+use Rattle.bits.specs.Writes.{NoRoom}
+use Rattle.expansion.specs.Drafts.{WroteOn}
 use Rattle.expansion.proofs.Counting.{counted, too_many, has_room, wrote_ok, wrote_not}
 use Rattle.expansion.proofs.draft.Draft.close.Goals as goal
 use Rattle.expansion.proofs.draft.Draft.close.Goals.{then-self-via-then-self, then-self-via-else-self+then-variables-eq0, then-self-via-else-self+else-variables-eq0+then-variables-gt4096}
@@ -45,4 +45,4 @@ returns-clause-closes c = λ s first places ns rest d z some.
     let wr = subst (WroteOn (bits 12 0 ++ rest) first old.writer) c.if-self.false d.written in
     let done = wrote_ok (bits 12 (old.list.len - 1)) back c.put.new.self c.put.result c.in_ok-ok.ensures.variant (c.put.ensures.writes (omega arith) (omega arith)) in
     let k = counted v rest first.bytes.now c.close.new.self.bytes.now c.close.result first old.writer refl d.bytes d.are z wr (c.close.ensures.padded ∙ ap (λ b. closed b old.writer.at) (done.bytes ∙ ap (λ n. overwritten old.writer.bytes.now 0 (bits 12 n)) e)) c.close.ensures.count in
-    record { named = c.close.ensures.named ∙ c.put.ensures.named ∙ d.named; long = k.long; within = k.within; file = k.is }
+    record { long = k.long; within = k.within; file = k.is }
