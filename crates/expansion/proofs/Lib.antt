@@ -5,3 +5,4 @@ pub mod Meanings
 pub mod Walking
 pub mod Inside
 pub mod Values
+pub mod Variables
