@@ -1,16 +1,14 @@
 -- What stands behind an opening, and the form behind h.
-use Rattle.std.proofs.Common.{◌≡◌, ℕ, suc, ◌≤◌, Bool, true, false, List, [], ◌∷◌, map, length, Some, None, Option, Ok, Err, Result, sym, refl, ap, ◌∙◌, subst, arith}
+use Rattle.std.proofs.Common.{◌≡◌, ℕ, Bool, true, false, List, [], ◌∷◌, map, length, Some, None, Option, Result, refl, ap, ◌∙◌, subst, arith}
 use Rattle.std.specs.Option.{is_some}
 use Rattle.definitions.specs.Lists.{keep}
 use Rattle.definitions.specs.Alg.{Alg}
 use Rattle.definitions.specs.Systems.{forall, Occurrence, Clause, Equation, System}
-use Rattle.definitions.specs.ReadSystem.{Scope, Header, scope}
+use Rattle.definitions.specs.ReadSystem.{Scope, Header}
 use Rattle.definitions.specs.Values.{holds}
 use Rattle.definitions.specs.Truth.{Instance}
 use Rattle.definitions.specs.Boolean.{Form, known, over, all_of, clause_form, inside_form}
 use Rattle.definitions.specs.Fits.{Every, OccurrenceFits, ClauseFits}
-use Rattle.rows.specs.declared.row.Row.{Row}
-use Rattle.rows.specs.Listed.{listed}
 use Rattle.system.specs.declared.places.ClauseAt.{ClauseAt}
 use Rattle.system.specs.declared.places.OccurrenceAt.{OccurrenceAt}
 use Rattle.system.specs.Walks.{Pairs, Found, OccurrenceOf, ClauseOf}

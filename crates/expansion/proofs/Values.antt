@@ -1,12 +1,12 @@
 -- One quantified variable more is bound, and the values that are left to it.
 use lib.ListN.{length-map}
-use Rattle.std.proofs.Common.{Result, ◌≡◌, ◌≢◌, ℕ, zero, suc, ◌+◌, ◌-◌, ◌<◌, ◌≤◌, Bool, true, false, eqb, List, [], ◌∷◌, ◌++◌, map, length, drop, get_or, set, Some, None, Option, sym, refl, ap, ◌∙◌, subst, ap₂, arith, get_or-set_other, get_or-set_same, drop-cons}
+use Rattle.std.proofs.Common.{Result, ◌≡◌, ◌≢◌, ℕ, zero, suc, ◌+◌, ◌-◌, ◌<◌, ◌≤◌, Bool, true, false, eqb, List, [], ◌∷◌, ◌++◌, map, length, drop, get_or, set, Some, None, Option, sym, refl, ap, ◌∙◌, subst, arith, get_or-set_other, get_or-set_same}
 use Rattle.std.proofs.lemmas.Bool.{eqb-true}
 use Rattle.std.proofs.lemmas.Bool.Decides.{nat_tests}
-use Rattle.definitions.specs.Lists.{at, or_else, from, up_to}
+use Rattle.definitions.specs.Lists.{or_else, from, up_to}
 use Rattle.definitions.specs.Alg.{Alg}
 use Rattle.definitions.specs.Systems.{Quantified}
-use Rattle.definitions.specs.Truth.{Instance, size_of}
+use Rattle.definitions.specs.Truth.{Instance}
 use Rattle.definitions.specs.Boolean.{Form, over, spread}
 use Rattle.definitions.specs.Fits.{Every, SortFits}
 use Rattle.terms.specs.Known.{Alike}

@@ -1,9 +1,8 @@
 -- The equation of an instance, as it is kept and as it is read, and what is written of its variable.
 use denote.Enum.Declared.{tag_of}
-use Rattle.std.proofs.Common.{◌≡◌, ℕ, zero, suc, ◌+◌, ◌-◌, ◌<◌, ◌≤◌, ◌^◌, Bool, true, false, List, [], ◌∷◌, ◌++◌, map, length, take, get_or, replicate, Some, None, Option, Bor, Result, sym, refl, ap, ◌∙◌, subst, arith}
+use Rattle.std.proofs.Common.{◌≡◌, ℕ, zero, suc, ◌-◌, ◌<◌, ◌≤◌, false, List, [], ◌∷◌, ◌++◌, map, length, take, replicate, Some, None, Option, Bor, Result, sym, refl, ap, ◌∙◌, subst, arith}
 use Rattle.std.specs.Option.{is_some}
 use Rattle.std.specs.Slice.{IsItemAt}
-use lib.ListN.{length-map}
 use Rattle.definitions.specs.Lists.{at}
 use Rattle.definitions.specs.Alg.{Alg, Lawful}
 use Rattle.definitions.specs.Bits.{bits}
@@ -25,7 +24,7 @@ use Rattle.system.specs.contracts.header.Sign.{the_type}
 use Rattle.system.specs.declared.outline.Equation.{Equation as Told}
 use Rattle.system.specs.declared.outline.Outline.{Outline}
 use Rattle.system.specs.Bodies.{padded}
-use Rattle.system.specs.Files.{kept_sign, kept_quantified, kept_header}
+use Rattle.system.specs.Files.{kept_sign, kept_header}
 use Rattle.system.specs.Whole.{kept_headers, Outlined}
 use Rattle.expansion.specs.declared.draft.Draft.{Draft}
 use Rattle.expansion.specs.declared.draft.Unfinished.{Unfinished}

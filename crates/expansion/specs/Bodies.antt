@@ -1,9 +1,9 @@
 -- What stands in the file where the body of an instance is written from it.
-use Rattle.std.specs.Prelude.{◌≡◌, ℕ, ◌≤◌, List, map, length, Some}
+use Rattle.std.specs.Prelude.{ℕ, List, map, Some}
 use Rattle.definitions.specs.Alg.{Alg}
-use Rattle.definitions.specs.Systems.{Occurrence, Clause, System}
+use Rattle.definitions.specs.Systems.{Occurrence, Clause}
 use Rattle.definitions.specs.ReadSystem.{Scope, Header}
-use Rattle.definitions.specs.Fits.{OccurrenceFits, ClauseFits, header_of}
+use Rattle.definitions.specs.Fits.{OccurrenceFits, ClauseFits}
 use Rattle.terms.specs.declared.value.Environment.{Environment}
 use Rattle.terms.specs.Known.{Alike}
 use Rattle.system.specs.declared.places.ClauseAt.{ClauseAt}

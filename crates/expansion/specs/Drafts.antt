@@ -1,5 +1,5 @@
 -- What a draft holds, and what writing a part of the Boolean file makes of it.
-use Rattle.std.specs.Prelude.{◌≡◌, ℕ, ◌+◌, ◌*◌, ◌/◌, ◌<◌, ◌≤◌, Bool, true, false, List, [], ◌∷◌, ◌++◌, length, take, drop, Some, None, Option, Ok, Err, Result}
+use Rattle.std.specs.Prelude.{◌≡◌, ℕ, ◌+◌, ◌*◌, ◌<◌, ◌≤◌, Bool, true, false, List, ◌++◌, length, drop, Some, None, Option, Ok, Err, Result}
 use Rattle.definitions.specs.Lists.{at}
 use Rattle.definitions.specs.Bits.{packed}
 use Rattle.definitions.specs.Systems.{Quantifier, exists, forall, Equation, System}

@@ -1,4 +1,4 @@
-use Rattle.std.proofs.Common.{◌≡◌, ℕ, ◌+◌, ◌≤◌, List, length, drop}
+use Rattle.std.proofs.Common.{ℕ, ◌≤◌, List, drop}
 use Rattle.definitions.specs.Systems.{Clause}
 use Rattle.definitions.specs.ReadSystem.{Scope}
 use Rattle.definitions.specs.Values.{holds}

@@ -1,4 +1,4 @@
-use Rattle.std.proofs.Common.{rules, ◌≡◌, ℕ, ◌<◌, None, Some, get_or, map, ap, ◌∙◌, sym, refl}
+use Rattle.std.proofs.Common.{rules, ◌≡◌, ℕ, ◌<◌, None, Some, get_or, map}
 use Rattle.std.specs.Option.{unwrap_or}
 use Rattle.expansion.proofs.Meanings.{values_kept}
 use Rattle.expansion.proofs.body.meant.Goals as goal

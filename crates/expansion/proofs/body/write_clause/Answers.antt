@@ -1,4 +1,4 @@
-use Rattle.std.proofs.Common.{◌≡◌, ℕ, ◌≤◌, ◌++◌, ◌-◌, List, map, length, sym, ◌∙◌, subst, arith}
+use Rattle.std.proofs.Common.{ℕ, ◌++◌, ◌-◌, List, map, sym, ◌∙◌, subst, arith}
 use lib.ListN.{length-map}
 use Rattle.definitions.specs.Bits.{bits}
 use Rattle.definitions.specs.Systems.{exists, Occurrence}

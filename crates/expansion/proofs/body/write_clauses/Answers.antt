@@ -1,4 +1,4 @@
-use Rattle.std.proofs.Common.{◌≡◌, ℕ, ◌+◌, ◌≤◌, true, false, List, drop, length, refl, sym, ap, ◌∙◌, subst, arith, drop_of_length-le}
+use Rattle.std.proofs.Common.{◌≡◌, ◌+◌, drop, length, sym, ap, ◌∙◌, subst, arith, drop_of_length-le}
 use Rattle.definitions.specs.Systems.{Clause}
 use Rattle.definitions.specs.Values.{holds}
 use Rattle.definitions.specs.Boolean.{clause_form}

@@ -1,12 +1,11 @@
-use Rattle.std.proofs.Common.{◌≡◌, ℕ, ◌+◌, ◌≤◌, true, List, drop, length, refl, ap, arith, drop_of_length-le}
-use Rattle.std.proofs.lemmas.List.{append-nil}
+use Rattle.std.proofs.Common.{◌≡◌, true, drop, length, refl, ap, arith, drop_of_length-le, map}
 use Rattle.definitions.specs.Systems.{Occurrence}
 use Rattle.definitions.specs.Truth.{meant}
 use Rattle.definitions.specs.Boolean.{var}
 use Rattle.system.specs.Whole.{kept_headers}
 use Rattle.expansion.specs.Bodies.{OccurrenceThere}
 use Rattle.theorems.proofs.Coming.{keep_all}
-use Rattle.expansion.proofs.Drafting.{forms_same}
+use Rattle.expansion.proofs.Drafting.{forms_same, well}
 use Rattle.expansion.proofs.Walking.{item, parts_first, parts_next, parts_stop, parts_end, occurrence_fine}
 use Rattle.expansion.proofs.body.write_occurrences.Goals as goal
 
@@ -24,7 +23,7 @@ returns-in_err-put_variable g c = λ s k os ps vs e b p.
     let f = λ (o : Occurrence). var (meant a ps vs o) in
     let x = c.occurrence-item.result in
     let i = item c.args.occurrences.now c.loop-occurrence.occurrence-index x (omega arith) c.occurrence-item.is in
-    forms_same s (ap (Rattle.std.proofs.Common.map f) (keep_all os)) c.args.draft.now c.put_variable.new.self c.from_residual.result
+    forms_same s (ap (map f) (keep_all os)) c.args.draft.now c.put_variable.new.self c.from_residual.result
     (parts_stop R (λ (_ : Occurrence). true) f s x c.args.draft.now c.loop-occurrence.draft c.put_variable.new.self c.put_variable.new.self c.in_err-put_variable.field-0.0 c.from_residual.result c.from_residual.ensures.0 i
     (c.loop-occurrence.invariant s k os ps vs e b p)
     (λ o h. (refl, c.in_err-put_variable.ensures s (meant a ps vs o) (occurrence_fine a s hs k ps vs o e h.fits) (c.meant.ensures o h.end ps vs b h.found))))
@@ -49,5 +48,5 @@ returns g c = λ s k os ps vs e b p.
     let xs = c.args.occurrences.now in
     let i = c.loop-occurrence.occurrence-index in
     let none : length (drop i xs) ≡ 0 = ap length (drop_of_length-le xs {i = i} (omega arith)) in
-    forms_same s (ap (Rattle.std.proofs.Common.map f) (keep_all os)) c.args.draft.now c.loop-occurrence.draft Rattle.expansion.proofs.Drafting.well
+    forms_same s (ap (map f) (keep_all os)) c.args.draft.now c.loop-occurrence.draft well
     (parts_end R (λ (_ : Occurrence). true) f s c.args.draft.now c.loop-occurrence.draft (tt {0}) none (c.loop-occurrence.invariant s k os ps vs e b p))

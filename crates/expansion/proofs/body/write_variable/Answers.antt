@@ -1,16 +1,11 @@
-use Rattle.std.proofs.Common.{rules, ◌≡◌, ℕ, ◌≤◌, ◌<◌, List, [], map, length, Some, sym, refl, ap, ◌∙◌, subst, arith, length-append}
+use Rattle.std.proofs.Common.{◌≡◌, List, [], length, Some, sym, refl, ap, ◌∙◌, arith}
 use Rattle.definitions.specs.Lists.{at}
 use Rattle.definitions.specs.ReadSystem.{Header}
 use Rattle.definitions.specs.Fits.{header_of}
 use Rattle.rows.specs.Listed.{listed}
 use Rattle.system.specs.declared.outline.Equation.{Equation as Told}
-use Rattle.system.specs.declared.places.BodyAt.{BodyAt}
-use Rattle.system.specs.Files.{kept_quantified}
 use Rattle.system.specs.Whole.{kept_headers}
 use Rattle.system.specs.Walks.{BodyOf}
-use Rattle.terms.specs.declared.value.Environment.{Environment}
-use Rattle.expansion.specs.Bodies.{Bound}
-use Rattle.expansion.proofs.Drafting.{drafts_refused}
 use Rattle.expansion.proofs.Inside.{not_found, found}
 use Rattle.expansion.proofs.Variables.{item_none, item_some, sign_small, front_known, none_bound, present, kept, variable_drafts}
 use Rattle.expansion.proofs.body.write_variable.Goals as goal

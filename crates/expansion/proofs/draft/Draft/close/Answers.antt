@@ -1,9 +1,9 @@
-use Rattle.std.proofs.Common.{◌≡◌, ℕ, ◌-◌, ◌+◌, ◌*◌, ◌<◌, ◌≤◌, true, false, List, ◌++◌, length, sym, refl, ap, ◌∙◌, subst, arith}
-use Rattle.definitions.specs.Bits.{bits, packed}
+use Rattle.std.proofs.Common.{◌≡◌, ◌-◌, ◌++◌, length, refl, ap, ◌∙◌, subst, arith}
+use Rattle.definitions.specs.Bits.{bits}
 use Rattle.bits.specs.declared.writer.BitWriter.{BitWriter}
 use Rattle.bits.specs.Put.{overwritten, closed}
-use Rattle.bits.specs.Writes.{Wrote, NoRoom}
-use Rattle.expansion.specs.Drafts.{WroteOn, Closes}
+use Rattle.bits.specs.Writes.{NoRoom}
+use Rattle.expansion.specs.Drafts.{WroteOn}
 use Rattle.expansion.proofs.Counting.{counted, too_many, has_room, wrote_ok, wrote_not}
 use Rattle.expansion.proofs.draft.Draft.close.Goals as goal
 use Rattle.expansion.proofs.draft.Draft.close.Goals.{then-self-via-then-self, then-self-via-else-self+then-variables-eq0, then-self-via-else-self+else-variables-eq0+then-variables-gt4096}

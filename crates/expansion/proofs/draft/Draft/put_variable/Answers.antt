@@ -1,6 +1,5 @@
-use Rattle.std.proofs.Common.{◌≡◌, ℕ, ◌<◌, ◌^◌, true, Some, None, Option, List, [], ◌∷◌, ◌++◌, length, sym, refl, ap, ◌∙◌, subst, append_assoc, arith}
+use Rattle.std.proofs.Common.{◌≡◌, ℕ, List, [], ◌∷◌, ◌++◌, ap, ◌∙◌, subst, append_assoc, arith}
 use Rattle.definitions.specs.Bits.{bits}
-use Rattle.definitions.specs.Truth.{Instance}
 use Rattle.definitions.specs.Boolean.{come, number_in}
 use Rattle.system.specs.declared.instance.Instance.{Instance as Kept}
 use Rattle.system.specs.Instances.{same_instance}
