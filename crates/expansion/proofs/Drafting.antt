@@ -145,14 +145,6 @@ module _ (s : System) where
     pub whole : ps ≡ done ++ left
     pub drafts : Drafts {T = Unit {0}} s (vars_of done) (λ f. head ++ all_bits_by done f) old now well
 
-  pub writing_first : (head : List ℕ) (ps : List (Form Instance)) (old now : Draft) → Puts head old now → Writing head ps ps old now
-  writing_first head ps old now h =
-      record {
-        done = [];
-        whole = refl;
-        drafts = drafts_same [] (λ f. head) (λ f. head ++ []) old now well (λ f. sym (append-nil head)) (puts_draft head old now (tt {0}) h);
-      }
-
   pub writing_here : (ps : List (Form Instance)) (now : Draft) → Writing [] ps ps now now
   writing_here ps now =
       record {
