@@ -1,9 +1,10 @@
 -- A file whose count is written over at the end.
 use Rattle.std.specs.Result.{is_ok}
-use Rattle.std.proofs.Common.{Ok, Err, Result, ◌≡◌, ℕ, zero, suc, ◌+◌, ◌*◌, ◌-◌, ◌/◌, ◌%◌, ◌^◌, ◌<◌, ◌≤◌, ◌⊎◌, inl, inr, Bool, true, false, List, [], ◌∷◌, ◌++◌, length, drop, get_or, sym, refl, ap, ◌∙◌, subst, ap₂, zero-add, arith, length-append}
+use Rattle.std.proofs.Common.{Ok, Err, Result, ◌≡◌, ℕ, suc, ◌+◌, ◌*◌, ◌-◌, ◌/◌, ◌%◌, ◌^◌, ◌<◌, ◌≤◌, ◌⊎◌, inl, inr, true, false, List, [], ◌∷◌, ◌++◌, length, drop, get_or, sym, ap, ◌∙◌, subst, ap₂, zero-add, arith, length-append, ltb}
 use Rattle.std.proofs.lemmas.Bool.{cases_lt}
 use Rattle.definitions.specs.Bits.{bit_at, Stands, bits, packed}
 use Rattle.theorems.proofs.Packs.{bytes_long}
+use Rattle.theorems.proofs.Repack.{same_list}
 use Rattle.bits.specs.declared.writer.BitWriter.{BitWriter}
 use Rattle.bits.specs.Back.{Bytes, are_bits}
 use Rattle.bits.specs.Put.{overwritten, closed}
@@ -11,7 +12,8 @@ use Rattle.bits.specs.declared.writer.Full.{Full}
 use Rattle.bits.specs.Writes.{Wrote, NoRoom, Writes}
 use Rattle.bits.proofs.Puts.{in_a_row, length_bits}
 use Rattle.bits.proofs.Packs.{packs}
-use Rattle.bits.proofs.Written.{written, bits_are, long}
+use Rattle.bits.proofs.Written.{written, bits_are, long, each_cons}
+use Rattle.expansion.proofs.Drafting.{both_are}
 
 -- bytes with the same bits
 byte_same : (x y : ℕ) → x < 256 → y < 256 → ((j : ℕ) → j < 8 → x / 2 ^ (7 - j) % 2 ≡ y / 2 ^ (7 - j) % 2) → x ≡ y
@@ -25,12 +27,6 @@ byte_same x y l k h =
     let e6 : x / 2 % 2 ≡ y / 2 % 2 = h 6 (omega arith) in
     let e7 : x / 1 % 2 ≡ y / 1 % 2 = h 7 (omega arith) in
     omega arith
-
-same_list : (xs ys : List ℕ) → length xs ≡ length ys → ((k : ℕ) → k < length xs → get_or xs k 0 ≡ get_or ys k 0) → xs ≡ ys
-same_list [] [] e h = refl
-same_list [] (y ∷ ys) e h = absurd (omega arith)
-same_list (x ∷ xs) [] e h = absurd (omega arith)
-same_list (x ∷ xs) (y ∷ ys) e h = ap₂ (λ z zs. z ∷ zs) (h 0 (omega arith)) (same_list xs ys (omega arith) (λ k l. h (suc k) (omega arith)))
 
 same_bits : (f g : List ℕ) → Bytes f → Bytes g → length f ≡ length g → ((k : ℕ) → bit_at f k ≡ bit_at g k) → f ≡ g
 same_bits f g bf bg e h =
@@ -82,7 +78,7 @@ over_again f xs ys rest by ax ay ar e h =
 
 are_front : (bs cs : List ℕ) → are_bits (bs ++ cs) ≡ true → are_bits cs ≡ true
 are_front [] cs h = h
-are_front (b ∷ bs) cs h = are_front bs cs (Rattle.bits.proofs.Written.each_cons (λ b. Rattle.std.proofs.Common.ltb b 2) b (bs ++ cs) h).1
+are_front (b ∷ bs) cs h = are_front bs cs (each_cons (λ b. ltb b 2) b (bs ++ cs) h).1
 
 pub packed_long : (bs : List ℕ) → length (packed bs) ≡ (length bs + 7) / 8
 packed_long bs = bytes_long ((length bs + 7) / 8) bs
@@ -118,7 +114,7 @@ counted v rest f file n first w same by a z wr e k =
     record {
       long = m ∙ sym (packed_long bs);
       within = omega arith;
-      is = e ∙ ap₂ closed over p ∙ packs f bs by (Rattle.expansion.proofs.Drafting.both_are ys rest (bits_are 12 v) ar) (omega arith) ∙ ap (λ j. packed bs ++ drop j f) (sym m);
+      is = e ∙ ap₂ closed over p ∙ packs f bs by (both_are ys rest (bits_are 12 v) ar) (omega arith) ∙ ap (λ j. packed bs ++ drop j f) (sym m);
     }
 
 -- the bits are too many for the bytes

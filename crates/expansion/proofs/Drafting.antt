@@ -1,10 +1,10 @@
 -- What a draft becomes as parts are written one after the other.
 use Rattle.std.specs.Result.{is_err}
-use Rattle.std.proofs.Common.{◌≡◌, ℕ, ◌+◌, ◌*◌, ◌-◌, ◌<◌, ◌≤◌, Bool, true, false, List, [], ◌∷◌, ◌++◌, map, length, Ok, Err, Result, IsErr, sym, refl, ap, ◌∙◌, subst, append_assoc, append-nil, arith}
+use Rattle.std.proofs.Common.{◌≡◌, ℕ, ◌+◌, ◌*◌, ◌-◌, ◌<◌, ◌≤◌, Bool, true, false, List, [], ◌∷◌, ◌++◌, length, Ok, Err, Result, IsErr, sym, refl, ap, ◌∙◌, subst, append_assoc, append-nil, arith, length-append, ltb}
 use Rattle.definitions.specs.Bits.{bits}
 use Rattle.definitions.specs.Systems.{Quantifier, exists, forall, System}
 use Rattle.definitions.specs.Truth.{Instance}
-use Rattle.definitions.specs.Boolean.{Form, vars, over, come, number_in}
+use Rattle.definitions.specs.Boolean.{Form, vars, over, come, number_in, forms}
 use Rattle.definitions.specs.Fits.{Every}
 use Rattle.theorems.proofs.Coming.{numbers_stay, come_longer, bits_by, all_bits_by, vars_of, forms_ask, vars_snoc, bits_snoc, vars_more, any_bits, all_bits}
 use Rattle.bits.specs.declared.writer.BitWriter.{BitWriter}
@@ -18,11 +18,12 @@ use Rattle.system.specs.Walks.{Pairs}
 use Rattle.expansion.specs.declared.draft.Draft.{Draft}
 use Rattle.expansion.specs.declared.draft.Unfinished.{Unfinished}
 use Rattle.expansion.specs.Drafts.{over_number, StandsFor, WroteOn, Drafted, Puts, Drafts, DraftsForm, DraftsForms}
+use Rattle.theorems.proofs.Numbers.{come_append}
 
 pub both_are : (bs cs : List ℕ) → are_bits bs ≡ true → are_bits cs ≡ true → are_bits (bs ++ cs) ≡ true
 both_are [] cs e k = k
 both_are (b ∷ bs) cs e k =
-    let h = each_cons (λ b. Rattle.std.proofs.Common.ltb b 2) b bs e in
+    let h = each_cons (λ b. ltb b 2) b bs e in
     ap (λ (t : Bool). elim t [ true ↦ are_bits (bs ++ cs) | false ↦ false ]) h.0 ∙ both_are bs cs h.1 k
 
 abbrev pub well : Result (Unit {0}) Unfinished
@@ -40,7 +41,7 @@ no_room bs cs first w a n short =
     (left_stop cs [] (left_next {rest = cs ++ []} bs w (left_first (bs ++ (cs ++ [])) first) a) n short)
 
 too_long : (bs cs : List ℕ) (first : BitWriter) → 8 * length first.bytes.now < first.at + length bs → 8 * length first.bytes.now < first.at + length (bs ++ cs)
-too_long bs cs first h = let l = Rattle.std.proofs.Common.length-append bs cs in omega arith
+too_long bs cs first h = let l = length-append bs cs in omega arith
 
 module _ (cs : List ℕ) (w new : BitWriter) (t u : Bool) where
   -- what is written so far goes on
@@ -106,14 +107,14 @@ module _ (s : System) where
   drafts_then xs ys b c old mid new (Ok x) asks h k = λ first places ns bs d.
       let ms = come ns xs in
       let all = come ns (xs ++ ys) in
-      let e : come ms ys ≡ all = Rattle.theorems.proofs.Numbers.come_append ns xs ys in
+      let e : come ms ys ≡ all = come_append ns xs ys in
       let w : b (number_in ms) ≡ b (number_in all) = asks (number_in ms) (number_in all) (numbers_stay ns xs ys) in
       subst (λ (zs : List ℕ). Drafted s first places all zs new)
       (append_assoc bs (b (number_in ms)) (c (number_in all)) ∙ ap (λ zs. bs ++ (zs ++ c (number_in all))) w)
       (subst (λ (l : List Instance). Drafted s first places l ((bs ++ b (number_in ms)) ++ c (number_in l)) new) e
       (k first places ms (bs ++ b (number_in ms)) (h first places ns bs d)))
   drafts_then xs ys b c old mid new (Err x) asks h k = λ first places ns bs d.
-      subst (λ (l : List Instance). places < length l) (Rattle.theorems.proofs.Numbers.come_append ns xs ys)
+      subst (λ (l : List Instance). places < length l) (come_append ns xs ys)
       (k first places (come ns xs) (bs ++ b (number_in (come ns xs))) (h first places ns bs d))
 
   -- where the first part finds no place, the whole finds none
@@ -144,14 +145,6 @@ module _ (s : System) where
     pub whole : ps ≡ done ++ left
     pub drafts : Drafts {T = Unit {0}} s (vars_of done) (λ f. head ++ all_bits_by done f) old now well
 
-  pub writing_first : (head : List ℕ) (ps : List (Form Instance)) (old now : Draft) → Puts head old now → Writing head ps ps old now
-  writing_first head ps old now h =
-      record {
-        done = [];
-        whole = refl;
-        drafts = drafts_same [] (λ f. head) (λ f. head ++ []) old now well (λ f. sym (append-nil head)) (puts_draft head old now (tt {0}) h);
-      }
-
   pub writing_here : (ps : List (Form Instance)) (now : Draft) → Writing [] ps ps now now
   writing_here ps now =
       record {
@@ -168,7 +161,7 @@ module _ (s : System) where
       (drafts_same (vars_of done ++ vars p) (λ f. (head ++ all_bits_by done f) ++ bits_by p f) (λ f. head ++ all_bits_by (done ++ (p ∷ [])) f) old new r
       (λ f. append_assoc head (all_bits_by done f) (bits_by p f) ∙ ap (λ zs. head ++ zs) (sym (bits_snoc done p f)))
       (drafts_then (vars_of done) (vars p) (λ f. head ++ all_bits_by done f) (bits_by p) old now new r
-      (λ f g e. ap (λ zs. head ++ zs) (forms_ask (Rattle.definitions.specs.Boolean.forms done) f g e)) h k))
+      (λ f g e. ap (λ zs. head ++ zs) (forms_ask (forms done) f g e)) h k))
 
   pub writing_next : (head : List ℕ) (ps : List (Form Instance)) (p : Form Instance) (left : List (Form Instance)) (old now new : Draft) →
       Writing head ps (p ∷ left) old now → DraftsForm {T = Unit {0}} s p now new well → Writing head ps left old new

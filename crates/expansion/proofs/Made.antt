@@ -3,12 +3,11 @@ use Rattle.faults.specs.declared.ExpandFault.{ExpandFault}
 use Rattle.faults.specs.declared.ExpandFault.TheVariants.{Unread, Refused}
 use Rattle.faults.specs.declared.ReadFault.{ReadFault}
 use Rattle.faults.specs.declared.Reason.TheVariants.{TooManyInstances}
-use Rattle.std.proofs.Common.{◌≡◌, ℕ, ◌-◌, ◌<◌, ◌≤◌, ◌⊎◌, inl, inr, min, suc, List, [], ◌∷◌, ◌++◌, length, get_or, take, drop, Some, None, Option, Ok, Err, Result, sym, refl, ap, ◌∙◌, subst, length-append, arith}
+use Rattle.std.proofs.Common.{◌≡◌, ℕ, ◌-◌, ◌<◌, ◌≤◌, ◌⊎◌, inl, inr, min, suc, List, [], ◌∷◌, ◌++◌, length, get_or, take, drop, Ok, Err, Result, sym, refl, ap, ◌∙◌, subst, length-append, arith}
 use Rattle.std.proofs.lemmas.Bool.{cases_lt}
 use Rattle.std.proofs.lemmas.List.{length-take, length-drop}
 use Rattle.std.proofs.Math.Seq.{take-append_seam}
 use Rattle.std.specs.List.{slice_range}
-use Rattle.std.specs.Option.{ok_or}
 use Rattle.std.specs.Result.{result_or, is_ok, IsOk, OnOk}
 use Rattle.definitions.specs.Alg.{Alg, Lawful}
 use Rattle.definitions.specs.Bits.{bits, packed}
@@ -39,10 +38,6 @@ or_err (Err e) f g k = (e, refl, (let i : f ≡ g = cc in sym i))
 pub or_ok : {T E D : Type 0} (r : Result T E) (f : D) (x : T) → result_or r (Err f) ≡ Ok x → r ≡ Ok x
 or_ok (Ok y) f x e = cc
 or_ok (Err e) f x k = absurd cc
-
-pub or_none : {T D : Type 0} (o : Option T) (f g : D) → ◌≡◌ {A = Result T D} (Err g) (ok_or o f) → o ≡ None → g ≡ f
-or_none None f g e k = cc
-or_none (Some x) f g e k = absurd cc
 
 -- the places are the first of the work memory
 pub few_places : {A : Type 0} (n : ℕ) (work : List A) → n ≡ min (length work) 4096 → length (take (n - 0) work) ≡ min (length work) 4096

@@ -11,15 +11,10 @@ use Rattle.terms.specs.Shapes.{standing}
 use Rattle.terms.specs.Known.{Alike}
 use Rattle.rows.specs.Listed.{listed, listed_within}
 use Rattle.theorems.proofs.Listing.{map_twice}
+use Rattle.theorems.proofs.Repack.{same_list}
 use Rattle.system.specs.Bodies.{padded}
 use Rattle.system.specs.declared.places.OccurrenceAt.{OccurrenceAt}
 use Rattle.system.specs.Walks.{OccurrenceOf}
-
-same_list : (xs ys : List ℕ) → length xs ≡ length ys → ((k : ℕ) → k < length xs → get_or xs k 0 ≡ get_or ys k 0) → xs ≡ ys
-same_list [] [] e h = refl
-same_list [] (y ∷ ys) e h = absurd (omega arith)
-same_list (x ∷ xs) [] e h = absurd (omega arith)
-same_list (x ∷ xs) (y ∷ ys) e h = ap₂ (λ z zs. z ∷ zs) (h 0 (omega arith)) (same_list xs ys (omega arith) (λ k l. h (suc k) (omega arith)))
 
 get_zero : (m i : ℕ) → ◌≡◌ {A = ℕ} (get_or (replicate m 0) i 0) 0
 get_zero zero i = refl

@@ -1,14 +1,14 @@
 -- A kept instance that comes, and the number that it gets.
 use Rattle.std.specs.Cmp.Rules.{comparing}
-use Rattle.std.proofs.Common.{rules, Decides, ◌≡◌, ℕ, zero, suc, ◌+◌, ◌*◌, ◌-◌, ◌<◌, ◌≤◌, Bool, true, false, List, [], ◌∷◌, ◌++◌, length, take, replicate, Some, None, Option, Ok, Err, Result, IsErr, sym, refl, ap, ◌∙◌, subst, ap₂, append-nil, arith, length-append}
+use Rattle.std.proofs.Common.{rules, Decides, ◌≡◌, ℕ, zero, suc, ◌+◌, ◌-◌, ◌<◌, ◌≤◌, Bool, true, false, List, [], ◌∷◌, ◌++◌, length, take, replicate, Some, None, Option, sym, refl, ap, ◌∙◌, subst, ap₂, arith, length-append, zero-add}
 use Rattle.definitions.specs.Lists.{at, some}
 use Rattle.std.specs.Option.{is_some}
 use Rattle.definitions.specs.Systems.{Equation, System}
 use Rattle.definitions.specs.Truth.{Instance}
 use Rattle.definitions.specs.Boolean.{same_instance, come, number_in}
 use Rattle.definitions.specs.Fits.{Every}
-use Rattle.theorems.proofs.Listing.{some_same}
-use Rattle.theorems.proofs.Numbers.{instance_eq, instance_same}
+use Rattle.theorems.proofs.Listing.{some_same, at_lt}
+use Rattle.theorems.proofs.Numbers.{instance_eq, instance_same, come_has, come_keeps, number_at}
 use Rattle.bits.specs.declared.writer.BitWriter.{BitWriter}
 use Rattle.system.specs.declared.instance.Instance.{Instance as Kept}
 use Rattle.system.specs.Instances.{same_instance as same}
@@ -129,7 +129,7 @@ module _ (s : System) where
             let t : some p ks ≡ true = some_alike ks ns h f ∙ e in
             let same : come ns (x ∷ []) ≡ ns = ap (λ b. elim b as (λ _. List Instance) [ true ↦ ns | false ↦ ns ++ (x ∷ []) ]) e in
             let is_ks : ms ≡ ks = l ∙ ap (λ b. elim b as (λ _. List Kept) [ true ↦ ks | false ↦ ks ++ (k ∷ []) ]) t in
-            let at_place : i ≡ number_in ns x = q ∙ ap (λ o. elim o as (λ _. ℕ) [ Some j ↦ j | None ↦ n ]) (place_alike 0 ks ns h f t) ∙ Rattle.std.proofs.Common.zero-add (number_in ns x) in
+            let at_place : i ≡ number_in ns x = q ∙ ap (λ o. elim o as (λ _. ℕ) [ Some j ↦ j | None ↦ n ]) (place_alike 0 ks ns h f t) ∙ zero-add (number_in ns x) in
             record {
               lists = subst (λ (zs : List Instance). Pairs StandsFor ms zs) (sym same) (subst (λ (zs : List Kept). Pairs StandsFor zs ns) (sym is_ks) h);
               number = at_place ∙ ap (λ (zs : List Instance). number_in zs x) (sym same);
@@ -167,9 +167,9 @@ module _ (s : System) where
         let n = named (listed old.list) (listed l) ns old.list.len i d.lists d.fine d.count c.lists c.place in
         let slice : length l.items.now ≡ places = c.places ∙ d.slice in
         let count : l.len ≡ length (come ns (x ∷ [])) = sym (take_long l.len l.items.now l.within) ∙ pairs_long (listed l) (come ns (x ∷ [])) n.lists in
-        let has = Rattle.theorems.proofs.Numbers.come_has ns (x ∷ []) in
+        let has = come_has ns (x ∷ []) in
         let low : number_in (come ns (x ∷ [])) x < length (come ns (x ∷ [])) =
-        Rattle.theorems.proofs.Listing.at_lt (come ns (x ∷ [])) (number_in (come ns (x ∷ [])) x) x (Rattle.theorems.proofs.Numbers.number_at (come ns (x ∷ [])) x has.0) in
+        at_lt (come ns (x ∷ [])) (number_in (come ns (x ∷ [])) x) x (number_at (come ns (x ∷ [])) x has.0) in
         let few = d.few in
         let at_place = n.number in
         record {
@@ -180,7 +180,7 @@ module _ (s : System) where
             few = d.few;
             count = count;
             lists = n.lists;
-            fine = Rattle.theorems.proofs.Numbers.come_keeps (Fine s) ns (x ∷ []) d.fine (fine, tt);
+            fine = come_keeps (Fine s) ns (x ∷ []) d.fine (fine, tt);
             are = d.are;
             written = d.written;
           };

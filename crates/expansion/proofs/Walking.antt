@@ -1,5 +1,5 @@
 -- Loops over what stands in the file, which write a form for each thing that passes a test.
-use Rattle.std.proofs.Common.{◌≡◌, ℕ, zero, suc, ◌+◌, ◌<◌, ◌≤◌, Bool, true, false, List, [], ◌∷◌, ◌++◌, map, length, drop, get_or, Some, Ok, Err, Result, IsErr, sym, refl, ap, ◌∙◌, subst, add-one, arith, drop-cons}
+use Rattle.std.proofs.Common.{◌≡◌, ℕ, suc, ◌+◌, ◌<◌, Bool, true, false, List, [], ◌∷◌, map, length, drop, get_or, Ok, Err, Result, IsErr, sym, refl, ap, ◌∙◌, subst, add-one, arith, drop-cons, zero-add}
 use lib.ListN.{length-map}
 use Rattle.definitions.specs.Lists.{at, keep}
 use Rattle.definitions.specs.Alg.{Alg}
@@ -116,7 +116,7 @@ pub record Counting {X Y : Type 0} (R : X → Y → Type 0) (t : Y → Bool) (ys
 
 module _ {X Y : Type 0} (R : X → Y → Type 0) (t : Y → Bool) where
   pub counting_first : (xs : List X) (ys : List Y) → Pairs R xs ys → Counting R t ys xs 0
-  counting_first xs ys h = record { left = ys; pairs = h; count = Rattle.std.proofs.Common.zero-add (length (keep t ys)) }
+  counting_first xs ys h = record { left = ys; pairs = h; count = zero-add (length (keep t ys)) }
 
   pub counting_next : {ys : List Y} {xs more : List X} (x : X) (n : ℕ) → xs ≡ x ∷ more → Counting R t ys xs n → ((y : Y) → R x y → t y ≡ true) → Counting R t ys more (n + 1)
   counting_next x n e c h =

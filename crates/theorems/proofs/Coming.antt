@@ -1,11 +1,12 @@
 -- The numbers of instances that came stay when more come, and the bits of a form ask for the numbers of its variables alone.
-use Rattle.std.proofs.Common.{◌≡◌, ℕ, zero, suc, ◌+◌, ◌-◌, ◌≤◌, Bool, true, false, List, [], ◌∷◌, ◌++◌, map, length, Some, sym, refl, ap, ◌∙◌, ap₂, true≢false, append_assoc, append-nil, arith, length-append}
-use Rattle.definitions.specs.Lists.{at, some, keep}
+use Rattle.std.proofs.Common.{◌≡◌, ℕ, zero, suc, ◌-◌, ◌≤◌, Bool, true, false, List, [], ◌∷◌, ◌++◌, length, Some, sym, refl, ap, ◌∙◌, ap₂, true≢false, append_assoc, append-nil, arith, length-append}
+use Rattle.definitions.specs.Lists.{at, keep}
 use Rattle.definitions.specs.Bits.{bits}
 use Rattle.definitions.specs.Truth.{Instance}
-use Rattle.definitions.specs.Boolean.{Form, known, all, any, var, Forms, nil, cons, forms, count, vars, vars_all, renamed, renamed_all, same_instance, come, number_in, form_bits, forms_bits}
+use Rattle.definitions.specs.Boolean.{Form, known, all, any, var, Forms, nil, cons, forms, vars, vars_all, renamed, renamed_all, same_instance, come, number_in, form_bits, forms_bits}
 use Rattle.definitions.specs.Fits.{Every}
 use Rattle.theorems.proofs.Listing.{none_some, some_same, every_with, every_left, every_right}
+use Rattle.theorems.proofs.Shapes.{renamed_count, forms_count}
 use Rattle.theorems.proofs.Numbers.{Has, instance_same, come_grows, come_has, come_append}
 
 pub number_more : (ns ys : List Instance) (x : Instance) → Has ns x → number_in (ns ++ ys) x ≡ number_in ns x
@@ -41,17 +42,13 @@ all_bits_by ps f = forms_bits (renamed_all (forms ps) f)
 abbrev pub vars_of : List (Form Instance) → List Instance
 vars_of ps = vars_all (forms ps)
 
-pub renamed_many : {I J : Type 0} (ps : Forms I) (g : I → J) → count (renamed_all ps g) ≡ count ps
-renamed_many nil g = refl
-renamed_many (cons p ps) g = ap suc (renamed_many ps g)
-
 mutual
   pub form_asks : (p : Form Instance) (f g : Instance → ℕ) → Every (λ x. f x ≡ g x) (vars p) → form_bits (renamed p f) ≡ form_bits (renamed p g)
   form_asks (known b) f g h = refl
   form_asks (all ps) f g h =
-      ap₂ (λ n bs. bits 3 2 ++ (bits 8 (n - 1) ++ bs)) (renamed_many ps f ∙ sym (renamed_many ps g)) (forms_ask ps f g h)
+      ap₂ (λ n bs. bits 3 2 ++ (bits 8 (n - 1) ++ bs)) (renamed_count ps f ∙ sym (renamed_count ps g)) (forms_ask ps f g h)
   form_asks (any ps) f g h =
-      ap₂ (λ n bs. bits 3 3 ++ (bits 8 (n - 1) ++ bs)) (renamed_many ps f ∙ sym (renamed_many ps g)) (forms_ask ps f g h)
+      ap₂ (λ n bs. bits 3 3 ++ (bits 8 (n - 1) ++ bs)) (renamed_count ps f ∙ sym (renamed_count ps g)) (forms_ask ps f g h)
   form_asks (var x) f g h = ap (λ n. bits 3 4 ++ bits 12 n) h.0
 
   pub forms_ask : (ps : Forms Instance) (f g : Instance → ℕ) → Every (λ x. f x ≡ g x) (vars_all ps) → forms_bits (renamed_all ps f) ≡ forms_bits (renamed_all ps g)
@@ -73,17 +70,13 @@ vars_more [] qs = refl
 vars_more (p ∷ ps) qs = ap (λ xs. vars p ++ xs) (vars_more ps qs) ∙ sym (append_assoc (vars p) (vars_of ps) (vars_of qs))
 
 -- all and any of a list of forms
-many : (ps : List (Form Instance)) → count (forms ps) ≡ length ps
-many [] = refl
-many (p ∷ ps) = ap suc (many ps)
-
 pub any_bits : (ps : List (Form Instance)) (n : ℕ) (f : Instance → ℕ) → n ≡ length ps → bits_by (any (forms ps)) f ≡ (bits 3 3 ++ bits 8 (n - 1)) ++ all_bits_by ps f
 any_bits ps n f e =
-    ap (λ k. bits 3 3 ++ (bits 8 (k - 1) ++ all_bits_by ps f)) (renamed_many (forms ps) f ∙ many ps ∙ sym e) ∙ sym (append_assoc (bits 3 3) (bits 8 (n - 1)) (all_bits_by ps f))
+    ap (λ k. bits 3 3 ++ (bits 8 (k - 1) ++ all_bits_by ps f)) (renamed_count (forms ps) f ∙ forms_count ps ∙ sym e) ∙ sym (append_assoc (bits 3 3) (bits 8 (n - 1)) (all_bits_by ps f))
 
 pub all_bits : (ps : List (Form Instance)) (n : ℕ) (f : Instance → ℕ) → n ≡ length ps → bits_by (all (forms ps)) f ≡ (bits 3 2 ++ bits 8 (n - 1)) ++ all_bits_by ps f
 all_bits ps n f e =
-    ap (λ k. bits 3 2 ++ (bits 8 (k - 1) ++ all_bits_by ps f)) (renamed_many (forms ps) f ∙ many ps ∙ sym e) ∙ sym (append_assoc (bits 3 2) (bits 8 (n - 1)) (all_bits_by ps f))
+    ap (λ k. bits 3 2 ++ (bits 8 (k - 1) ++ all_bits_by ps f)) (renamed_count (forms ps) f ∙ forms_count ps ∙ sym e) ∙ sym (append_assoc (bits 3 2) (bits 8 (n - 1)) (all_bits_by ps f))
 
 -- what a test keeps of all, where it holds of all
 pub keep_all : {A : Type 0} (xs : List A) → keep (λ _. true) xs ≡ xs

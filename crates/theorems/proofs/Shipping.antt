@@ -1,7 +1,7 @@
 -- What expanding comes to, by the count of the instances and the length of the file.
 use Rattle.faults.specs.declared.ExpandFault.TheVariants.{Refused}
 use Rattle.faults.specs.declared.Reason.TheVariants.{TooManyInstances, BooleanTooLong}
-use Rattle.std.proofs.Common.{◌≡◌, ℕ, ◌+◌, ◌-◌, ◌/◌, ◌<◌, ◌≤◌, Bool, true, false, ◌&&◌, leb, ◌⊎◌, List, ◌++◌, map, length, Some, None, Option, sym, refl, ap, ◌∙◌, subst, ap₂, inl, inr, length-append, arith}
+use Rattle.std.proofs.Common.{◌≡◌, ℕ, ◌-◌, ◌<◌, ◌≤◌, Bool, true, false, ◌&&◌, leb, ◌⊎◌, List, ◌++◌, map, length, Some, None, Option, sym, refl, ap, ◌∙◌, subst, ap₂, inl, inr, arith}
 use lib.ListN.{length-map}
 use Rattle.std.proofs.lemmas.Bool.{leb-true, le-leb, lt-leb, and_from}
 use Rattle.std.proofs.Math.Bool.{and-false}
@@ -12,7 +12,6 @@ use Rattle.definitions.specs.Systems.{System}
 use Rattle.definitions.specs.Truth.{Instance}
 use Rattle.definitions.specs.Boolean.{numbering, Variable, variable_of, variable_bits, boolean_written, Expanded, made, refused, shipped, expand_system}
 use Rattle.theorems.proofs.Listing.{map_twice}
-use Rattle.theorems.proofs.Packs.{bytes_long}
 use Rattle.theorems.proofs.Growing.{member_bits}
 
 -- the cases of what is shipped
@@ -55,10 +54,6 @@ module _ (a : Alg) (s : System) where
   written_content ns =
       ap (λ m. packed (bits 12 (m - 1) ++ flat (map variable_bits (map (variable_of a s ns) ns)))) (variables_long ns) ∙
       ap (λ z. packed (bits 12 (length ns - 1) ++ flat z)) (map_twice variable_bits (variable_of a s ns) ns)
-
-  -- how long it is
-  pub content_long : (ns : List Instance) → length (packed (content ns)) ≡ (12 + length (member_bits a s ns ns) + 7) / 8
-  content_long ns = bytes_long ((length (content ns) + 7) / 8) (content ns) ∙ ap (λ m. (m + 7) / 8) (length-append (bits 12 (length ns - 1)) (member_bits a s ns ns))
 
   module _ (places room : ℕ) (ns : List Instance) where
     count_many : (n : ℕ) → (n < length ns) ⊎ (places < length ns) → by_count a places room s ns (leb (length ns) n) ≡ refused (Refused TooManyInstances)

@@ -1,4 +1,4 @@
-use Rattle.std.proofs.Common.{◌≡◌, ℕ, ◌≤◌, ◌++◌, ◌-◌, List, map, length, true, false, sym, ◌∙◌, subst, arith}
+use Rattle.std.proofs.Common.{◌≡◌, ℕ, ◌++◌, ◌-◌, List, length, true, false, sym, ◌∙◌, subst, arith, ap}
 use lib.ListN.{length-map}
 use Rattle.definitions.specs.Lists.{keep}
 use Rattle.definitions.specs.Bits.{bits}
@@ -9,12 +9,12 @@ use Rattle.definitions.specs.Boolean.{clause_form}
 use Rattle.definitions.specs.Fits.{header_of}
 use Rattle.theorems.proofs.Coming.{all_bits_by, vars_of}
 use Rattle.rows.specs.declared.row.Row.{Row}
-use Rattle.rows.specs.Listed.{listed}
+use Rattle.rows.specs.Listed.{listed, listed_within}
 use Rattle.system.specs.declared.places.ClauseAt.{ClauseAt}
 use Rattle.system.specs.Whole.{kept_headers}
 use Rattle.system.specs.Walks.{Pairs, ClauseOf}
 use Rattle.expansion.specs.Bodies.{ClauseThere}
-use Rattle.expansion.proofs.Drafting.{puts_draft, puts_then, over_drafts}
+use Rattle.expansion.proofs.Drafting.{puts_draft, puts_then, over_drafts, well}
 use Rattle.expansion.proofs.Inside.{not_found, found, clauses_there, guarded, inside_false, inside_empty, inside_some, form_same}
 use Rattle.expansion.proofs.body.write_inside.Goals as goal
 
@@ -22,7 +22,7 @@ pub returns-then-not-holds : goal.returns-then-not-holds
 returns-then-not-holds g c = λ s e q ps vs short hs b h fits.
     let a = g.G.Algebra.meaning c.args.accepted.now.alg.now in
     let is : holds a ps vs e.h ≡ false = sym (c.holds.ensures e.h ps vs b h.h_stands) ∙ c.if-not-holds.true in
-    form_same s (sym (inside_false a e ps vs is)) c.args.draft.now c.put_token.new.self Rattle.expansion.proofs.Drafting.well (puts_draft s (bits 3 0) c.args.draft.now c.put_token.new.self (tt {0}) c.put_token.ensures)
+    form_same s (sym (inside_false a e ps vs is)) c.args.draft.now c.put_token.new.self well (puts_draft s (bits 3 0) c.args.draft.now c.put_token.new.self (tt {0}) c.put_token.ensures)
 
 pub returns-in_err-clauses : goal.returns-in_err-clauses
 returns-in_err-clauses g c = λ s e q ps vs short hs b h fits.
@@ -45,7 +45,7 @@ returns-then-count-eq0 g c = λ s e q ps vs short hs b h fits.
     let n : c.count_holding-count.result ≡ length (keep t e.clauses) = c.count_holding-count.ensures.holding k e.clauses ps vs b pairs in
     let zero = c.if-count-eq0.true in
     let none : length (guarded a e ps vs) ≡ 0 = length-map (keep t e.clauses) (clause_form a ps vs) ∙ sym n ∙ zero in
-    form_same s (sym (inside_empty a e ps vs is none)) c.args.draft.now c.put_token-then-count-eq0.new.self Rattle.expansion.proofs.Drafting.well (puts_draft s (bits 3 1) c.args.draft.now c.put_token-then-count-eq0.new.self (tt {0}) c.put_token-then-count-eq0.ensures)
+    form_same s (sym (inside_empty a e ps vs is none)) c.args.draft.now c.put_token-then-count-eq0.new.self well (puts_draft s (bits 3 1) c.args.draft.now c.put_token-then-count-eq0.new.self (tt {0}) c.put_token-then-count-eq0.ensures)
 
 pub returns : goal.returns
 returns g c = λ s e q ps vs short hs b h fits.
@@ -64,8 +64,8 @@ returns g c = λ s e q ps vs short hs b h fits.
     let count = c.count_holding-count.result in
     let n : count ≡ length (guarded a e ps vs) = c.count_holding-count.ensures.holding k e.clauses ps vs b pairs ∙ sym (length-map (keep t e.clauses) (clause_form a ps vs)) in
     let few = c.count_holding-count.ensures.few in
-    let most = Rattle.rows.specs.Listed.listed_within c.in_ok-clauses.clauses in
-    let long = Rattle.std.proofs.Common.ap length c.as_slice.ensures in
+    let most = listed_within c.in_ok-clauses.clauses in
+    let long = ap length c.as_slice.ensures in
     let some : length (guarded a e ps vs) ≡ 0 → ⊥ = λ z. (let w = c.if-count-eq0.false in omega arith) in
     let forms = guarded a e ps vs in
     let old = c.args.draft.now in
