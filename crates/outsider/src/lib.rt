@@ -1,5 +1,6 @@
-//! A pass by somebody else: it uses only what is public.
+//! Somebody else's pass: it uses what is public alone.
 
 #![tactic(auto)]
 
-ghost use Rattle.outsider.specs.Repeats.{without_repeats};
+mod pieces;
+pub mod repeats;
