@@ -1,6 +1,6 @@
 -- How many bits what is written has.
-use Rattle.std.proofs.Common.{◌≡◌, ℕ, suc, ◌+◌, ◌*◌, List, [], ◌∷◌, ◌++◌, map, length, sym, refl, ap, ◌∙◌, arith, length-append}
-use native.Mathlib.Numerals.{unary_clauses}
+use Rattle.std.proofs.Common.{◌≡◌, ℕ, suc, ◌+◌, ◌*◌, List, [], ◌∷◌, ◌++◌, map, length, sym, refl, ap₂, ◌∙◌, arith, length-append}
+use Rattle.std.proofs.Math.Nat.{suc-mul, add_comm}
 use Rattle.definitions.specs.Lists.{flat}
 use Rattle.definitions.specs.Bits.{bits}
 use Rattle.definitions.specs.Solution.{Sign, least, greatest}
@@ -10,7 +10,7 @@ use Rattle.theorems.proofs.Goods.{bits_long}
 
 pub flat_long : {A : Type 0} (b : A → List ℕ) (n : ℕ) → ((x : A) → length (b x) ≡ n) → (xs : List A) → length (flat (map b xs)) ≡ length xs * n
 flat_long b n h [] = omega arith
-flat_long b n h (x ∷ xs) = simp unary_clauses (length-append (b x) (flat (map b xs)) ∙ omega (arith, h x, flat_long b n h xs))
+flat_long b n h (x ∷ xs) = length-append (b x) (flat (map b xs)) ∙ ap₂ ◌+◌ (h x) (flat_long b n h xs) ∙ add_comm n (length xs * n) ∙ sym (suc-mul (length xs) n)
 
 abbrev quantified_bits : Quantified → List ℕ
 quantified_bits q = quantifier_bits q.quantifier ++ bits 4 q.sort

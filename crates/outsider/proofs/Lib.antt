@@ -3,3 +3,5 @@ pub mod Reading
 pub mod Writing
 pub mod Comparing
 pub mod Copying
+pub mod Along
+pub mod Walking
