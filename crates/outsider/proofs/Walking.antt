@@ -1,7 +1,7 @@
 -- Walking through the clauses of a body, keeping those that repeat no earlier one.
 use Rattle.std.proofs.Common.{◌≡◌, ℕ, suc, ◌+◌, ◌<◌, ◌≤◌, Bool, true, false, List, [], ◌∷◌, ◌++◌, map, length, Some, None, Option, sym, refl, ap, ◌∙◌, subst, append_assoc, arith, length-append}
 use Rattle.std.proofs.lemmas.List.{append-nil}
-use Rattle.definitions.specs.Lists.{flat, some}
+use Rattle.definitions.specs.Lists.{flat, some, same}
 use Rattle.definitions.specs.Bits.{Stands}
 use Rattle.definitions.specs.Alg.{Alg}
 use Rattle.definitions.specs.Systems.{Clause}
