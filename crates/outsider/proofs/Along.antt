@@ -1,5 +1,5 @@
 -- Loops over pieces beside what stands there.
-use Rattle.std.proofs.Common.{◌≡◌, ℕ, suc, ◌+◌, ◌<◌, Bool, true, false, List, [], ◌∷◌, ◌++◌, map, length, drop, get_or, Result, IsErr, sym, refl, ap, ◌∙◌, subst, add-one, arith, drop-cons}
+use Rattle.std.proofs.Common.{◌≡◌, ℕ, suc, ◌+◌, ◌<◌, Bool, true, false, List, [], ◌∷◌, ◌++◌, map, length, drop, get_or, Result, IsErr, sym, refl, ap, ◌∙◌, subst, add-one, arith, drop-cons, length-append}
 use Rattle.definitions.specs.Lists.{flat, some}
 use Rattle.bits.specs.declared.writer.BitWriter.{BitWriter}
 use Rattle.bits.specs.declared.writer.Full.{Full}
@@ -89,3 +89,22 @@ module _ {X Y : Type 0} (R : X → Y → Type 0) (p : Y → Bool) where
 
   pub seeking_end : {ys : List Y} {xs : List X} → length xs ≡ 0 → Seeking R p ys xs → false ≡ some p ys
   seeking_end {xs = xs} e l = sym (l.same ∙ ap (some p) (none_left R xs l.left e l.pairs))
+
+-- of the lengths of what belongs to the things of a list, those so far are summed up
+pub record Counting {X Y : Type 0} (R : X → Y → Type 0) (f : Y → List ℕ) (base : ℕ) (ys : List Y) (xs : List X) (now : ℕ) : Type 0 where
+  pub left : List Y
+  pub pairs : Pairs R xs left
+  pub sum : now + length (flat (map f left)) ≡ base + length (flat (map f ys))
+
+module _ {X Y : Type 0} (R : X → Y → Type 0) (f : Y → List ℕ) (base : ℕ) where
+  pub counting_first : (xs : List X) (ys : List Y) → Pairs R xs ys → Counting R f base ys xs base
+  counting_first xs ys h = record { left = ys; pairs = h; sum = refl }
+
+  pub counting_next : {ys : List Y} {xs more : List X} {now : ℕ} (x : X) (n : ℕ) → xs ≡ x ∷ more → Counting R f base ys xs now → ((y : Y) → R x y → n ≡ length (f y)) → Counting R f base ys more (now + n)
+  counting_next {now = now} x n e l w =
+      let m = met R x l.left e l.pairs in
+      let k : length (flat (map f l.left)) ≡ n + length (flat (map f m.rest)) = ap (λ zs. length (flat (map f zs))) m.is ∙ length-append (f m.first) (flat (map f m.rest)) ∙ ap (λ z. z + length (flat (map f m.rest))) (sym (w m.first m.here)) in
+      record { left = m.rest; pairs = m.there; sum = omega (arith, l.sum) }
+
+  pub counting_end : {ys : List Y} {xs : List X} {now : ℕ} → length xs ≡ 0 → Counting R f base ys xs now → now ≡ base + length (flat (map f ys))
+  counting_end {xs = xs} e l = let k = ap (λ zs. length (flat (map f zs))) (none_left R xs l.left e l.pairs) in omega (arith, l.sum)

@@ -5,3 +5,4 @@ pub mod Comparing
 pub mod Copying
 pub mod Along
 pub mod Walking
+pub mod Bodies

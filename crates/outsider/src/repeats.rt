@@ -1,11 +1,11 @@
 //! Clauses that repeat an earlier one go.
-ghost use Rattle.std.specs.Prelude.{◌≡◌, ◌+◌, ◌≤◌, ◌++◌, ℕ, List, [], length, drop, map, IfSome, Ok, Err};
+ghost use Rattle.std.specs.Prelude.{◌≡◌, ◌+◌, ◌≤◌, ◌++◌, ℕ, List, [], length, drop, map, ◌<◌, Ok, Err};
 ghost use Rattle.definitions.specs.Lists.{flat, some};
 ghost use Rattle.definitions.specs.Bits.{bits, Stands};
 ghost use Rattle.definitions.specs.Reading.{next};
 ghost use Rattle.definitions.specs.ReadSystem.{Scope, read_body};
 ghost use Rattle.definitions.specs.Systems.{Clause, Equation as ReadEquation, System};
-ghost use Rattle.definitions.specs.Written.{header_bits, clause_bits, body_bits, system_bits, written};
+ghost use Rattle.definitions.specs.Written.{term_bits, header_bits, clause_bits, body_bits, system_bits, written};
 ghost use Rattle.definitions.specs.Fits.{Every, ClauseFits, BodyFits, SystemFits, header_of};
 ghost use Rattle.rows.specs.Listed.{listed};
 ghost use Rattle.bits.specs.Writes.{Writes};
@@ -13,7 +13,7 @@ ghost use Rattle.system.specs.Whole.{kept_headers, Outlined};
 ghost use Rattle.system.specs.Walks.{Found, Pairs};
 ghost use Rattle.outsider.specs.Repeats.{repeats, unrepeated, equation_without_repeats, without_repeats};
 ghost use Rattle.outsider.specs.Keeping.{repeats_rules};
-ghost use Rattle.outsider.specs.Pieces.{Holds, EquationThere, HeaderThere, Fitted};
+ghost use Rattle.outsider.specs.Pieces.{Made, Holds, EquationThere, HeaderThere, Fitted};
 
 use crate::pieces::Piece;
 use algebra::Algebra;
@@ -70,18 +70,26 @@ fn write_clauses(clauses: &[Piece], file: &[u8], writer: &mut BitWriter) -> Resu
     Ok(())
 }
 
+// Where the h of the body at the place stands, and its clauses, but for those that repeat an earlier one.
+fn pieces_of_body<G: Algebra>(accepted: &Accepted<G>, at: usize) -> Option<(Piece, Row<Piece, 15>)>
+    ensures { (e : ReadEquation) → length accepted.now.file.now ≤ 65536 → BodyFits (G.meaning accepted.now.alg.now) (kept_headers accepted.now.outline.now) e → Stands accepted.now.file.now at (body_bits e) → Found result (λ x. Made accepted.now.file.now (term_bits e.h) x.0 × Pairs (Holds accepted.now.file.now) (listed x.1) (unrepeated [] e.clauses)) }
+{
+    let body = accepted.open_body(at)?;
+    let clauses = unrepeated_clauses(accepted, &body)?;
+    let end = end_of_term(accepted.alg, accepted.view(at), DEPTH)?;
+    let h = Piece::between(at, end)?;
+    Some((h, clauses))
+}
+
 // The body at the place.
 fn write_body<G: Algebra>(
     accepted: &Accepted<G>,
     at: usize,
     writer: &mut BitWriter,
 ) -> Result<(), Full>
-    ensures { (e : ReadEquation) (q : ℕ) → length accepted.now.file.now ≤ 65536 → BodyFits (G.meaning accepted.now.alg.now) (kept_headers accepted.now.outline.now) e → Stands accepted.now.file.now at (body_bits e) → Writes (body_bits (equation_without_repeats e)) writer.old writer.new result }
+    ensures { (e : ReadEquation) → length accepted.now.file.now ≤ 65536 → BodyFits (G.meaning accepted.now.alg.now) (kept_headers accepted.now.outline.now) e → Stands accepted.now.file.now at (body_bits e) → Writes (body_bits (equation_without_repeats e)) writer.old writer.new result }
 {
-    let body = accepted.open_body(at).ok_or(Full)?;
-    let clauses = unrepeated_clauses(accepted, &body).ok_or(Full)?;
-    let end = end_of_term(accepted.alg, accepted.view(at), DEPTH).ok_or(Full)?;
-    let h = Piece::between(at, end).ok_or(Full)?;
+    let (h, clauses) = pieces_of_body(accepted, at).ok_or(Full)?;
     h.copy(accepted.file, writer)?;
     writer.put(clauses.len() as u32, 4)?;
     write_clauses(clauses.as_slice(), accepted.file, writer)
@@ -123,7 +131,7 @@ fn bits_of_headers(equations: &[Equation]) -> usize
 
 // The file without the clauses that repeat an earlier one of their body.
 fn write_system<G: Algebra>(accepted: &Accepted<G>, writer: &mut BitWriter) -> Result<(), Full>
-    ensures { (s : System) → length accepted.now.file.now ≤ 65536 → Stands accepted.now.file.now 0 (system_bits s) → accepted.now.outline.now.end ≡ length (system_bits s) → Outlined (G.meaning accepted.now.alg.now) accepted.now.file.now s accepted.now.outline.now → SystemFits (G.meaning accepted.now.alg.now) s → Writes (system_bits (without_repeats (G.meaning accepted.now.alg.now) s)) writer.old writer.new result }
+    ensures { (s : System) → length accepted.now.file.now ≤ 65536 → Outlined (G.meaning accepted.now.alg.now) accepted.now.file.now s accepted.now.outline.now → SystemFits (G.meaning accepted.now.alg.now) s → Writes (system_bits (without_repeats (G.meaning accepted.now.alg.now) s)) writer.old writer.new result }
 {
     let outline = accepted.outline;
     let equations = outline.equations.as_slice();
@@ -133,7 +141,48 @@ fn write_system<G: Algebra>(accepted: &Accepted<G>, writer: &mut BitWriter) -> R
     };
     headers.copy(accepted.file, writer)?;
     write_bodies(accepted, equations, writer)?;
-    let sorts = equations[outline.start.equation as usize].header.sorts;
-    let start = Piece::before(outline.end, 5 + 8 * sorts.len()).ok_or(Full)?;
+    // The start: the number of its equation, and a byte for each value.
+    let number = outline.start.equation as usize;
+    let equation = equations[number];
+    let count = 5 + 8 * equation.header.sorts.len();
+    let start = Piece::before(outline.end, count).ok_or(Full)?;
     start.copy(accepted.file, writer)
+}
+
+// The same in a buffer of its own, and how many bytes it has.
+fn draft<G: Algebra>(accepted: &Accepted<G>, buffer: &mut [u8]) -> Result<usize, Full>
+    ensures { (s : System) → length buffer.old ≤ 65536 → length accepted.now.file.now ≤ 65536 → Outlined (G.meaning accepted.now.alg.now) accepted.now.file.now s accepted.now.outline.now → SystemFits (G.meaning accepted.now.alg.now) s → elim result [ Ok n ↦ (n ≡ length (written (without_repeats (G.meaning accepted.now.alg.now) s))) × (n ≤ length buffer.old) × (buffer.new ≡ written (without_repeats (G.meaning accepted.now.alg.now) s) ++ drop n buffer.old) | Err _ ↦ length buffer.old < length (written (without_repeats (G.meaning accepted.now.alg.now) s)) ] }
+{
+    let mut writer = BitWriter {
+        bytes: buffer,
+        at: 0,
+    };
+    write_system(accepted, &mut writer)?;
+    Ok(writer.close())
+}
+
+// Writes it to the front of `out`, and tells its length.
+fn write<G: Algebra>(accepted: &Accepted<G>, out: &mut [u8]) -> Result<usize, Full>
+    ensures { (s : System) → length accepted.now.file.now ≤ 65536 → Outlined (G.meaning accepted.now.alg.now) accepted.now.file.now s accepted.now.outline.now → SystemFits (G.meaning accepted.now.alg.now) s → Fitted (written (without_repeats (G.meaning accepted.now.alg.now) s)) out.old out.new result }
+{
+    let mut buffer = [0u8; LONGEST];
+    let len = draft(accepted, &mut buffer)?;
+    let file = buffer.get(0..len).ok_or(Full)?;
+    deliver(out, file)
+}
+
+impl Pass for Repeats {
+    ghost meaning = { λ _. without_repeats };
+
+    ghost lawful = { λ _. repeats_rules };
+
+    fn apply<G: Algebra>(&self, alg: &G, file: &[u8], out: &mut [u8]) -> Result<usize, PassFault> {
+        let outline = read(alg, file)?;
+        let accepted = Accepted {
+            alg,
+            outline: &outline,
+            file,
+        };
+        write(&accepted, out).or(Err(PassFault::Declined(Reason::ResultTooLong)))
+    }
 }
