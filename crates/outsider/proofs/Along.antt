@@ -12,6 +12,9 @@ use Rattle.outsider.proofs.Writing.{left_none, left_same}
 pub dropped : {A : Type 0} (xs : List A) (i : ℕ) (d : A) → i < length xs → drop i xs ≡ get_or xs i d ∷ drop (i + 1) xs
 dropped xs i d h = rw add-one (drop-cons xs i d h)
 
+pub item : {A : Type 0} (xs : List A) (i : ℕ) (x : A) → i < length xs → x ≡ get_or xs i x → drop i xs ≡ x ∷ drop (i + 1) xs
+item xs i x h e = dropped xs i x h ∙ ap (λ y. y ∷ drop (i + 1) xs) (sym e)
+
 -- a list's first, and what belongs to it
 pub record Met {X Y : Type 0} (R : X → Y → Type 0) (x : X) (xs : List X) (ys : List Y) : Type 0 where
   pub first : Y

@@ -6,3 +6,4 @@ pub mod Copying
 pub mod Along
 pub mod Walking
 pub mod Bodies
+pub mod Systems
