@@ -7,3 +7,4 @@ pub mod Along
 pub mod Walking
 pub mod Bodies
 pub mod Systems
+pub mod Files
