@@ -1,2 +1,3 @@
-pub mod Fronts
+pub mod Bodies
 pub mod Drafts
+pub mod Whole

@@ -1,4 +1,20 @@
 //! The body of an instance as tokens.
+ghost use Rattle.std.specs.Prelude.{◌≡◌, ℕ, ◌≤◌, List, [], map, drop, length, Some};
+ghost use Rattle.definitions.specs.Lists.{at as at_number, keep};
+ghost use Rattle.definitions.specs.Systems.{Term as Tree, Quantified as Variable, Occurrence, Clause, Equation, System};
+ghost use Rattle.definitions.specs.ReadSystem.{Scope, scope, greatest_depth};
+ghost use Rattle.definitions.specs.Values.{holds as is_true};
+ghost use Rattle.definitions.specs.Truth.{Instance as Meant, meant as occurrence_meant};
+ghost use Rattle.definitions.specs.Boolean.{var, vars, renamed, clause_form, inside_form, spread, form, sign_at, variable_bits};
+ghost use Rattle.definitions.specs.Fits.{SystemFits, BodyFits, SortFits, Every, header_of};
+ghost use Rattle.terms.specs.Shapes.{standing};
+ghost use Rattle.rows.specs.Listed.{listed};
+ghost use Rattle.system.specs.Files.{kept_quantifier, kept_quantified};
+ghost use Rattle.system.specs.Whole.{kept_headers, Outlined};
+ghost use Rattle.system.specs.Walks.{Pairs, OccurrenceOf, BodyOf};
+ghost use Rattle.expansion.specs.Drafts.{token_number, over_number, StandsFor, Fine, Drafts, DraftsForm, DraftsForms};
+ghost use Rattle.expansion.specs.Bodies.{Bound, OccurrenceThere, ClauseThere};
+
 use crate::draft::{Draft, Token, Unfinished};
 use algebra::Algebra;
 use rows::Row;
@@ -8,7 +24,9 @@ use system::value::Environment;
 use system::walk::{Accepted, BodyAt, ClauseAt, OccurrenceAt};
 
 // Whether the term at the place is true.
-fn holds<G: Algebra>(accepted: &Accepted<G>, env: &Environment, at: usize) -> bool {
+fn holds<G: Algebra>(accepted: &Accepted<G>, env: &Environment, at: usize) -> bool
+    ensures { (t : Tree) (ps vs : List ℕ) → Bound ps vs env.now → standing (G.meaning accepted.now.alg.now) greatest_depth accepted.now.file.now at ≡ Some t → result ≡ is_true (G.meaning accepted.now.alg.now) ps vs t }
+{
     accepted.known(env, at) == Some(1)
 }
 
@@ -17,7 +35,9 @@ fn meant<G: Algebra>(
     accepted: &Accepted<G>,
     env: &Environment,
     occurrence: &OccurrenceAt,
-) -> Instance {
+) -> Instance
+    ensures { (o : Occurrence) (q : ℕ) (ps vs : List ℕ) → Bound ps vs env.now → OccurrenceOf (G.meaning accepted.now.alg.now) accepted.now.file.now o q occurrence.now → StandsFor result (occurrence_meant (G.meaning accepted.now.alg.now) ps vs o) }
+{
     let values = accepted.argument_values(env, occurrence);
     Instance {
         equation: occurrence.target,
@@ -25,17 +45,66 @@ fn meant<G: Algebra>(
     }
 }
 
-// An any over the occurrences of the clause; the instances come as their tokens are written.
+// The variables of the occurrences, whose instances come as they are written.
+fn write_occurrences<G: Algebra>(
+    accepted: &Accepted<G>,
+    env: &Environment,
+    occurrences: &[OccurrenceAt],
+    draft: &mut Draft,
+) -> Result<(), Unfinished>
+    ensures { (s : System) (c : Scope) (os : List Occurrence) (ps vs : List ℕ) → kept_headers accepted.now.outline.now ≡ map header_of s.equations → Bound ps vs env.now → Pairs (OccurrenceThere (G.meaning accepted.now.alg.now) (kept_headers accepted.now.outline.now) c accepted.now.file.now) occurrences.now os → DraftsForms s (map (λ o. var (occurrence_meant (G.meaning accepted.now.alg.now) ps vs o)) os) draft.old draft.new result }
+{
+    for occurrence in occurrences {
+        draft.put_variable(meant(accepted, env, occurrence))?;
+    }
+    Ok(())
+}
+
+// An any over the occurrences of the clause.
 fn write_clause<G: Algebra>(
     accepted: &Accepted<G>,
     env: &Environment,
     clause: &ClauseAt,
     draft: &mut Draft,
-) -> Result<(), Unfinished> {
+) -> Result<(), Unfinished>
+    ensures { (s : System) (c : Scope) (k : Clause) (ps vs : List ℕ) → length accepted.now.file.now ≤ 65536 → kept_headers accepted.now.outline.now ≡ map header_of s.equations → Bound ps vs env.now → ClauseThere (G.meaning accepted.now.alg.now) (kept_headers accepted.now.outline.now) c accepted.now.file.now clause.now k → DraftsForm s (clause_form (G.meaning accepted.now.alg.now) ps vs k) draft.old draft.new result }
+{
     draft.put_parts(Token::Any, clause.count as u32);
     let occurrences = accepted.occurrences(clause).ok_or(Unfinished)?;
-    for occurrence in occurrences.as_slice() {
-        draft.put_variable(meant(accepted, env, occurrence))?;
+    write_occurrences(accepted, env, occurrences.as_slice(), draft)
+}
+
+// How many clauses have guards that hold.
+fn count_holding<G: Algebra>(
+    accepted: &Accepted<G>,
+    env: &Environment,
+    clauses: &[ClauseAt],
+) -> usize
+    ensures few { result ≤ length clauses.now }
+    ensures holding { (c : Scope) (ks : List Clause) (ps vs : List ℕ) → Bound ps vs env.now → Pairs (ClauseThere (G.meaning accepted.now.alg.now) (kept_headers accepted.now.outline.now) c accepted.now.file.now) clauses.now ks → result ≡ length (keep (λ (k : Clause). is_true (G.meaning accepted.now.alg.now) ps vs k.guard) ks) }
+{
+    let mut count = 0;
+    for clause in clauses {
+        if holds(accepted, env, clause.guard) {
+            count += 1;
+        }
+    }
+    count
+}
+
+// The clauses whose guards hold.
+fn write_clauses<G: Algebra>(
+    accepted: &Accepted<G>,
+    env: &Environment,
+    clauses: &[ClauseAt],
+    draft: &mut Draft,
+) -> Result<(), Unfinished>
+    ensures { (s : System) (c : Scope) (ks : List Clause) (ps vs : List ℕ) → length accepted.now.file.now ≤ 65536 → kept_headers accepted.now.outline.now ≡ map header_of s.equations → Bound ps vs env.now → Pairs (ClauseThere (G.meaning accepted.now.alg.now) (kept_headers accepted.now.outline.now) c accepted.now.file.now) clauses.now ks → DraftsForms s (map (clause_form (G.meaning accepted.now.alg.now) ps vs) (keep (λ (k : Clause). is_true (G.meaning accepted.now.alg.now) ps vs k.guard) ks)) draft.old draft.new result }
+{
+    for clause in clauses {
+        if holds(accepted, env, clause.guard) {
+            write_clause(accepted, env, clause, draft)?;
+        }
     }
     Ok(())
 }
@@ -46,28 +115,31 @@ fn write_inside<G: Algebra>(
     env: &Environment,
     body: BodyAt,
     draft: &mut Draft,
-) -> Result<(), Unfinished> {
+) -> Result<(), Unfinished>
+    ensures { (s : System) (e : Equation) (q : ℕ) (ps vs : List ℕ) → length accepted.now.file.now ≤ 65536 → kept_headers accepted.now.outline.now ≡ map header_of s.equations → Bound ps vs env.now → BodyOf (G.meaning accepted.now.alg.now) (kept_headers accepted.now.outline.now) (header_of e) accepted.now.file.now e q body → BodyFits (G.meaning accepted.now.alg.now) (kept_headers accepted.now.outline.now) e → DraftsForm s (inside_form (G.meaning accepted.now.alg.now) e ps vs) draft.old draft.new result }
+{
     if !holds(accepted, env, body.h) {
         draft.put_token(Token::False);
         return Ok(());
     }
     let clauses = accepted.clauses(&body).ok_or(Unfinished)?;
-    let holding = clauses
-        .as_slice()
-        .iter()
-        .filter(|clause| holds(accepted, env, clause.guard));
-    let count = holding.count();
+    let count = count_holding(accepted, env, clauses.as_slice());
     if count == 0 {
         draft.put_token(Token::True);
         return Ok(());
     }
     draft.put_parts(Token::All, count as u32);
-    for clause in clauses.as_slice() {
-        if holds(accepted, env, clause.guard) {
-            write_clause(accepted, env, clause, draft)?;
-        }
+    write_clauses(accepted, env, clauses.as_slice(), draft)
+}
+
+// The token that stands for the quantifier.
+fn token_over(quantifier: Quantifier) -> Token
+    ensures { token_number result ≡ over_number (kept_quantifier quantifier) }
+{
+    match quantifier {
+        Quantifier::ForAll => Token::All,
+        Quantifier::Exists => Token::Any,
     }
-    Ok(())
 }
 
 // All or any over the values of each quantified variable from the one numbered `level` on, ascending.
@@ -78,20 +150,18 @@ fn write_quantified<G: Algebra>(
     env: Environment,
     body: BodyAt,
     draft: &mut Draft,
-) -> Result<(), Unfinished> {
+) -> Result<(), Unfinished>
+    ensures { (s : System) (e : Equation) (q : ℕ) (ps vs : List ℕ) → length accepted.now.file.now ≤ 65536 → kept_headers accepted.now.outline.now ≡ map header_of s.equations → e.quantified ≡ map kept_quantified (listed variables.now) → Every (λ (k : Variable). SortFits (G.meaning accepted.now.alg.now) k.sort) e.quantified → length vs ≡ level → Bound ps vs env → BodyOf (G.meaning accepted.now.alg.now) (kept_headers accepted.now.outline.now) (header_of e) accepted.now.file.now e q body → BodyFits (G.meaning accepted.now.alg.now) (kept_headers accepted.now.outline.now) e → DraftsForm s (spread (G.meaning accepted.now.alg.now) (drop level e.quantified) vs (inside_form (G.meaning accepted.now.alg.now) e ps)) draft.old draft.new result }
+{
     if level >= variables.len() {
         return write_inside(accepted, &env, body, draft);
     }
     let variable = variables.as_slice()[level];
     let size = accepted.alg.size(variable.sort).ok_or(Unfinished)?;
-    let token = match variable.quantifier {
-        Quantifier::ForAll => Token::All,
-        Quantifier::Exists => Token::Any,
-    };
-    draft.put_parts(token, size as u32);
-    for value in (0..=u8::MAX).take(size as usize) {
+    draft.put_parts(token_over(variable.quantifier), size as u32);
+    for value in 0..size {
         let mut inner = env;
-        inner.variables[level] = Some(value);
+        inner.variables[level] = Some(value as u8);
         write_quantified(accepted, variables, level + 1, inner, body, draft)?;
     }
     Ok(())
@@ -102,7 +172,9 @@ pub(crate) fn write_variable<G: Algebra>(
     accepted: &Accepted<G>,
     instance: &Instance,
     draft: &mut Draft,
-) -> Result<(), Unfinished> {
+) -> Result<(), Unfinished>
+    ensures { (s : System) (x : Meant) → length accepted.now.file.now ≤ 65536 → Outlined (G.meaning accepted.now.alg.now) accepted.now.file.now s accepted.now.outline.now → SystemFits (G.meaning accepted.now.alg.now) s → Fine s x → StandsFor instance.now x → Drafts s (vars (form (G.meaning accepted.now.alg.now) s x)) (λ f. variable_bits (record { sign = sign_at (at_number s.equations x.0); rank = x.0; body = renamed (form (G.meaning accepted.now.alg.now) s x) f })) draft.old draft.new result }
+{
     let equations = accepted.outline.equations.as_slice();
     let equation = equations.get(instance.equation as usize).ok_or(Unfinished)?;
     draft.put(equation.header.sign as u32, 1);

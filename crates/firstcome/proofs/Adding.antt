@@ -28,18 +28,21 @@ came_before same x l i e =
       place = sym (ap (λ o. elim o [ Some k ↦ k | None ↦ l.len ]) e);
       places = refl;
       behind = refl;
+      named = refl;
     }
 
 -- a record that is new
 pub came_now : {T : Type 0} (same : T → Bool) (x : T) (old new : FirstCome T) → place_of same (listed old) ≡ None →
-    listed new ≡ listed old ++ (x ∷ []) → length new.items.now ≡ length old.items.now → drop new.len new.items.now ≡ drop new.len old.items.now → Came same x old new old.len
-came_now same x old new e l n d =
+    listed new ≡ listed old ++ (x ∷ []) → length new.items.now ≡ length old.items.now → drop new.len new.items.now ≡ drop new.len old.items.now → new.items.ghost_name ≡ old.items.ghost_name →
+    Came same x old new old.len
+came_now same x old new e l n d g =
     record {
       lists = l ∙ sym (ap (λ b. elim b [ true ↦ listed old | false ↦ listed old ++ (x ∷ []) ]) (unplaced same (listed old) 0 e));
       place = sym (ap (λ o. elim o [ Some k ↦ k | None ↦ old.len ]) e);
       places = n;
       behind = d;
+      named = g;
     }
 
 pub no_place : {T : Type 0} (same : T → Bool) (l : FirstCome T) → place_of same (listed l) ≡ None → l.len ≡ length l.items.now → NoPlace same l l
-no_place same l e f = record { is_new = unplaced same (listed l) 0 e; full = f; len = refl; items = refl }
+no_place same l e f = record { is_new = unplaced same (listed l) 0 e; full = f; len = refl; items = refl; named = refl }

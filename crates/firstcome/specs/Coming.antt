@@ -21,6 +21,7 @@ pub record Came {T : Type 0} (same : T → Bool) (x : T) (old new : FirstCome T)
   pub place : i ≡ elim (place_of same (listed old)) [ Some k ↦ k | None ↦ old.len ]
   pub places : length new.items.now ≡ length old.items.now
   pub behind : drop new.len new.items.now ≡ drop new.len old.items.now
+  pub named : new.items.ghost_name ≡ old.items.ghost_name
 
 -- it is new, and the slice is full
 pub record NoPlace {T : Type 0} (same : T → Bool) (old new : FirstCome T) : Type 0 where
@@ -28,6 +29,7 @@ pub record NoPlace {T : Type 0} (same : T → Bool) (old new : FirstCome T) : Ty
   pub full : old.len ≡ length old.items.now
   pub len : new.len ≡ old.len
   pub items : new.items.now ≡ old.items.now
+  pub named : new.items.ghost_name ≡ old.items.ghost_name
 
 abbrev pub Comes : {T : Type 0} → (T → Bool) → T → FirstCome T → FirstCome T → Option ℕ → Type 0
 Comes same x old new (Some i) = Came same x old new i

@@ -10,6 +10,7 @@ impl<'a, T: PartialEq + Copy> FirstCome<'a, T> {
     pub fn new(items: &'a mut [T]) -> FirstCome<'a, T>
         ensures none { result.len ≡ 0 }
         ensures same { result.items.now ≡ items.old }
+        ensures named { result.items.ghost_name ≡ items.entry.ghost_name }
     {
         FirstCome { items, len: 0 }
     }

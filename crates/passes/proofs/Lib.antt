@@ -2,6 +2,10 @@ pub mod TermBits
 pub mod Numbering
 pub mod Masks
 pub mod Along
+pub mod Coming
+pub mod ComingU
+pub mod ComingR
+pub mod ComingPlans
 pub mod Heads
 pub mod Places
 pub mod Equations
@@ -12,3 +16,5 @@ pub mod PlanBasics
 pub mod PlanF
 pub mod PlanU
 pub mod Applying
+pub mod Learning
+pub mod Learns

@@ -1,4 +1,5 @@
-pub mod Fronts
+pub mod Comes
+pub mod Learned
 pub mod Letters
 pub mod Meanings
 pub mod Planned

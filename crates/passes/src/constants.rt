@@ -1,6 +1,19 @@
 //! C: a parameter that has one and the same value wherever its equation is reached gives way to that value.
-ghost use Rattle.definitions.specs.Constants.{pass_c};
+ghost use Rattle.std.specs.Prelude.{◌≡◌, ℕ, ◌<◌, ◌≤◌, List, [], ◌∷◌, map, length, Some};
+ghost use Rattle.definitions.specs.Lists.{flat};
+ghost use Rattle.definitions.specs.Alg.{Alg};
+ghost use Rattle.definitions.specs.Systems.{Occurrence, Clause, Equation, System};
+ghost use Rattle.definitions.specs.Reading.{next};
+ghost use Rattle.definitions.specs.ReadSystem.{Scope, Header, read_body};
+ghost use Rattle.definitions.specs.Constants.{Known as KnownValues, agreed as both_know, agreed_all, clause_brings, equation_brings, pass_c};
+ghost use Rattle.theorems.specs.KnowledgeLaws.{Shaped};
+ghost use Rattle.terms.specs.Known.{Alike};
+ghost use Rattle.system.specs.Walks.{OccurrenceOf, ClauseOf, Pairs};
+ghost use Rattle.system.specs.Whole.{kept_headers, Outlined};
+ghost use Rattle.passes.specs.declared.constants.Known.TheVariants.{Fresh};
 ghost use Rattle.passes.specs.Meanings.{c_rules};
+ghost use Rattle.passes.specs.Plans.{knowing, Planning};
+ghost use Rattle.passes.specs.Learned.{kept_at, ranks, put, occurrence_brings, Joins, Brings, Follows, NextPending, changing, Learnt, Learns, Least};
 
 use crate::Pass;
 use crate::plan::{Change, EquationChange, Missing, ParameterChange, Plan};
@@ -9,7 +22,7 @@ use algebra::Algebra;
 use faults::PassFault;
 use system::reading::Outline;
 use system::value::Environment;
-use system::walk::{Accepted, ClauseAt};
+use system::walk::{Accepted, ClauseAt, OccurrenceAt};
 
 /// The pass C.
 #[derive(Clone, Copy, PartialEq, Eq, Debug)]
@@ -28,20 +41,51 @@ pub enum Known {
     Followed([Option<u8>; 15]),
 }
 
+// The value that both know.
+fn agreed(x: Option<u8>, y: Option<u8>) -> Option<u8>
+    ensures { result ≡ both_know x y }
+{
+    if x == y { x } else { None }
+}
+
 // The values that both know.
-fn shared(x: &Values, y: &Values) -> Values {
-    let mut values = *x;
-    for (value, other) in values.iter_mut().zip(y) {
-        if *value != *other {
-            *value = None;
-        }
+fn shared(x: &Values, y: &Values) -> Values
+    ensures { result ≡ agreed_all x.now y.now }
+{
+    let mut values = [None; 15];
+    for (i, value) in x.iter().enumerate() {
+        values[i] = agreed(*value, y[i]);
     }
     values
 }
 
+// A known parameter becomes its value, and another stays.
+fn put(value: Option<u8>) -> ParameterChange
+    ensures { result ≡ put value }
+{
+    match value {
+        Some(value) => ParameterChange::Becomes(value),
+        None => ParameterChange::Stays,
+    }
+}
+
+// What becomes of each parameter.
+fn put_each(values: &Values) -> [ParameterChange; 15]
+    ensures { result ≡ map put values.now }
+{
+    let mut changes = [ParameterChange::Stays; 15];
+    // By index: of what an adapter of `iter_mut` has written a proof knows nothing afterwards.
+    for (i, value) in values.iter().enumerate() {
+        changes[i] = put(*value);
+    }
+    changes
+}
+
 impl Known {
     // What is known with an instance more, of which these values are known.
-    fn joined(self, values: Values) -> Known {
+    fn joined(self, values: Values) -> Known
+        ensures { Joins self values result }
+    {
         match self {
             Known::Unreached => Known::Fresh(values),
             Known::Fresh(old) => Known::Fresh(shared(&old, &values)),
@@ -57,7 +101,9 @@ impl Known {
     }
 
     // Known parameters of a reached equation are put in and removed, and an unreached equation becomes bare.
-    fn change(self) -> Change {
+    fn change(self) -> Change
+        ensures { result ≡ changing self }
+    {
         match self {
             Known::Unreached => Change {
                 equation: EquationChange::Bare,
@@ -65,12 +111,34 @@ impl Known {
             },
             Known::Fresh(values) | Known::Followed(values) => Change {
                 equation: EquationChange::Stays,
-                parameters: values.map(|value| match value {
-                    Some(value) => ParameterChange::Becomes(value),
-                    None => ParameterChange::Stays,
-                }),
+                parameters: put_each(&values),
             },
         }
+    }
+}
+
+// An instance more of the target is reached, of which these values are known.
+fn learn(knowledge: &mut [Known; 31], target: usize, values: Values)
+    requires { target < 31 }
+    ensures less { ranks knowledge.new ≤ ranks knowledge.old }
+    ensures brings { (ks : KnownValues) → Alike values ks → Brings ((target, ks) ∷ []) knowledge.old knowledge.new }
+{
+    knowledge[target] = knowledge[target].joined(values);
+}
+
+// Brings to each target what is known of the arguments.
+fn follow_occurrences<G: Algebra>(
+    accepted: &Accepted<G>,
+    env: &Environment,
+    occurrences: &[OccurrenceAt],
+    knowledge: &mut [Known; 31],
+)
+    ensures less { ranks knowledge.new ≤ ranks knowledge.old }
+    ensures brings { (ks : KnownValues) (os : List Occurrence) → Alike env.now.parameters ks → Alike env.now.variables [] → Pairs (λ x o. (u : ℕ) × OccurrenceOf (G.meaning accepted.now.alg.now) accepted.now.file.now o u x) occurrences.now os → Brings (map (occurrence_brings (G.meaning accepted.now.alg.now) ks) os) knowledge.old knowledge.new }
+{
+    for occurrence in occurrences {
+        let values = accepted.argument_values(env, occurrence);
+        learn(knowledge, occurrence.target as usize, values);
     }
 }
 
@@ -80,15 +148,30 @@ fn follow_clause<G: Algebra>(
     env: &Environment,
     clause: &ClauseAt,
     knowledge: &mut [Known; 31],
-) -> Result<(), Missing> {
+) -> Result<(), Missing>
+    ensures less { ranks knowledge.new ≤ ranks knowledge.old }
+    ensures brings { (ks : KnownValues) (c : Scope) (k : Clause) (q : ℕ) → length accepted.now.file.now ≤ 65536 → Alike env.now.parameters ks → Alike env.now.variables [] → ClauseOf (G.meaning accepted.now.alg.now) (kept_headers accepted.now.outline.now) c accepted.now.file.now k q clause.now → Follows (clause_brings (G.meaning accepted.now.alg.now) ks k) knowledge.old knowledge.new result }
+{
     if accepted.known(env, clause.guard) == Some(0) {
         return Ok(());
     }
     let occurrences = accepted.occurrences(clause).ok_or(Missing)?;
-    for occurrence in occurrences.as_slice() {
-        let values = accepted.argument_values(env, occurrence);
-        let target = occurrence.target as usize;
-        knowledge[target] = knowledge[target].joined(values);
+    follow_occurrences(accepted, env, occurrences.as_slice(), knowledge);
+    Ok(())
+}
+
+// Follows each of the clauses.
+fn follow_clauses<G: Algebra>(
+    accepted: &Accepted<G>,
+    env: &Environment,
+    clauses: &[ClauseAt],
+    knowledge: &mut [Known; 31],
+) -> Result<(), Missing>
+    ensures less { ranks knowledge.new ≤ ranks knowledge.old }
+    ensures brings { (ks : KnownValues) (c : Scope) (cs : List Clause) → length accepted.now.file.now ≤ 65536 → Alike env.now.parameters ks → Alike env.now.variables [] → Pairs (λ x k. (u : ℕ) × ClauseOf (G.meaning accepted.now.alg.now) (kept_headers accepted.now.outline.now) c accepted.now.file.now k u x) clauses.now cs → Follows (flat (map (clause_brings (G.meaning accepted.now.alg.now) ks) cs)) knowledge.old knowledge.new result }
+{
+    for clause in clauses {
+        follow_clause(accepted, env, clause, knowledge)?;
     }
     Ok(())
 }
@@ -99,7 +182,10 @@ fn follow_equation<G: Algebra>(
     at: usize,
     parameters: Values,
     knowledge: &mut [Known; 31],
-) -> Result<(), Missing> {
+) -> Result<(), Missing>
+    ensures less { ranks knowledge.new ≤ ranks knowledge.old }
+    ensures brings { (ks : KnownValues) (h : Header) (e : Equation) (q : ℕ) → length accepted.now.file.now ≤ 65536 → Alike parameters ks → read_body (G.meaning accepted.now.alg.now) (kept_headers accepted.now.outline.now) h accepted.now.file.now at ≡ next e q → Follows (equation_brings (G.meaning accepted.now.alg.now) e (Some ks)) knowledge.old knowledge.new result }
+{
     let env = Environment {
         parameters,
         variables: [None; 3],
@@ -109,28 +195,51 @@ fn follow_equation<G: Algebra>(
         return Ok(());
     }
     let clauses = accepted.clauses(&body).ok_or(Missing)?;
-    for clause in clauses.as_slice() {
-        follow_clause(accepted, &env, clause, knowledge)?;
-    }
-    Ok(())
+    follow_clauses(accepted, &env, clauses.as_slice(), knowledge)
 }
 
-// Follows every equation that is still to be followed.
-fn follow_fresh<G: Algebra>(
-    accepted: &Accepted<G>,
-    knowledge: &mut [Known; 31],
-) -> Result<(), Missing> {
-    for (i, equation) in accepted.outline.equations.as_slice().iter().enumerate() {
-        if let Known::Fresh(values) = knowledge[i] {
-            knowledge[i] = Known::Followed(values);
-            follow_equation(accepted, equation.body, values, knowledge)?;
+// An equation that is still to be followed: its number, and what is known of its parameters.
+#[derive(Clone, Copy)]
+struct Pending {
+    number: usize,
+    values: [Option<u8>; 15],
+}
+
+// The first equation that is still to be followed.
+fn next_pending(knowledge: &[Known; 31]) -> Option<Pending>
+    ensures { NextPending knowledge.now result }
+{
+    for (number, known) in knowledge.iter().enumerate() {
+        if let Known::Fresh(values) = known {
+            let values = *values;
+            return Some(Pending { number, values });
         }
     }
-    Ok(())
+    None
+}
+
+// Follows the equation.
+fn follow<G: Algebra>(
+    accepted: &Accepted<G>,
+    pending: &Pending,
+    knowledge: &mut [Known; 31],
+) -> Result<(), Missing>
+    requires { kept_at knowledge.old pending.now.number ≡ Fresh pending.now.values }
+    ensures less { ranks knowledge.new < ranks knowledge.old }
+    ensures learns { (s : System) → length accepted.now.file.now ≤ 65536 → Outlined (G.meaning accepted.now.alg.now) accepted.now.file.now s accepted.now.outline.now → Shaped s → Learnt (G.meaning accepted.now.alg.now) s knowledge.old → Learns (G.meaning accepted.now.alg.now) s knowledge.new result }
+{
+    let number = pending.number;
+    let values = pending.values;
+    knowledge[number] = Known::Followed(values);
+    let equations = accepted.outline.equations.as_slice();
+    let equation = equations.get(number).ok_or(Missing)?;
+    follow_equation(accepted, equation.body, values, knowledge)
 }
 
 // The start is reached, with all its values known.
-fn know_start(outline: &Outline) -> [Known; 31] {
+fn know_start(outline: &Outline) -> [Known; 31]
+    ensures { (a : Alg) (f : List ℕ) (s : System) → Outlined a f s outline.now → Shaped s → Learnt a s result }
+{
     let start = outline.start;
     let number = start.equation as usize;
     let mut knowledge = [Known::Unreached; 31];
@@ -141,27 +250,36 @@ fn know_start(outline: &Outline) -> [Known; 31] {
 }
 
 // The least knowledge that is stable: nothing that is brought is unknown to it.
-fn least_knowledge<G: Algebra>(accepted: &Accepted<G>) -> Result<[Known; 31], Missing> {
+fn least_knowledge<G: Algebra>(accepted: &Accepted<G>) -> Result<[Known; 31], Missing>
+    ensures { (s : System) → length accepted.now.file.now ≤ 65536 → Outlined (G.meaning accepted.now.alg.now) accepted.now.file.now s accepted.now.outline.now → Shaped s → Least (G.meaning accepted.now.alg.now) s result }
+{
     let mut knowledge = know_start(accepted.outline);
-    // Each equation is reached once, and each parameter becomes unknown once: at most 31 + 465 changes.
-    for _round in 0..497 {
-        if !knowledge
-            .iter()
-            .any(|known| matches!(known, Known::Fresh(_)))
-        {
-            return Ok(knowledge);
-        }
-        follow_fresh(accepted, &mut knowledge)?;
+    // It ends: an equation that was followed is fresh again only with fewer values known.
+    while let Some(pending) = next_pending(&knowledge) {
+        follow(accepted, &pending, &mut knowledge)?;
     }
     Ok(knowledge)
 }
 
+// What becomes of each equation.
+fn changes(knowledge: &[Known; 31]) -> [Change; 31]
+    ensures { result ≡ map changing knowledge.now }
+{
+    let mut changes = [Change::none(); 31];
+    for (i, known) in knowledge.iter().enumerate() {
+        changes[i] = known.change();
+    }
+    changes
+}
+
 // What least knowledge makes of each equation.
-fn plan_constants<G: Algebra>(accepted: &Accepted<G>) -> Result<Plan, Missing> {
+fn plan_constants<G: Algebra>(accepted: &Accepted<G>) -> Result<Plan, Missing>
+    ensures { (s : System) → length accepted.now.file.now ≤ 65536 → Outlined (G.meaning accepted.now.alg.now) accepted.now.file.now s accepted.now.outline.now → Planning (knowing (G.meaning accepted.now.alg.now) s) result }
+{
     let knowledge = least_knowledge(accepted)?;
     Ok(Plan {
         fold: false,
-        equations: knowledge.map(|known| known.change()),
+        equations: changes(&knowledge),
     })
 }
 

@@ -19,7 +19,6 @@ ghost use Rattle.system.specs.Walks.{OccurrenceOf, ClauseOf, Pairs};
 ghost use Rattle.rows.specs.Listed.{listed};
 ghost use Rattle.passes.specs.declared.plan.Plan.{Plan as Planned};
 ghost use Rattle.passes.specs.declared.plan.EquationChange.TheVariants.{Stays};
-ghost use Rattle.passes.specs.Fronts.{Fronts};
 ghost use Rattle.passes.specs.Planned.{stays as parameter_stays, mask, remaining, change_of, term_by, occurrence_by, clause_by, clause_stays, equation_by, body_left, system_by, Narrow, Fitted};
 ghost use Rattle.passes.specs.Plans.{PlansAs};
 ghost use Rattle.passes.specs.Rewrites.{quantified_bits, TermAt, OccurrenceThere, ClauseThere, HeaderThere, EquationThere, stays_at, changed};
@@ -289,8 +288,7 @@ fn write_planned<G: Algebra>(
     plan: &Plan,
     out: &mut [u8],
 ) -> Result<usize, Full>
-    ensures fronts { Fronts out.old out.new result }
-    ensures fits { (s : System) → length accepted.now.file.now ≤ 65536 → Outlined (G.meaning accepted.now.alg.now) accepted.now.file.now s accepted.now.outline.now → SystemFits (G.meaning accepted.now.alg.now) s → Fitted (written (system_by (G.meaning accepted.now.alg.now) plan.now s)) out.old out.new result }
+    ensures { (s : System) → length accepted.now.file.now ≤ 65536 → Outlined (G.meaning accepted.now.alg.now) accepted.now.file.now s accepted.now.outline.now → SystemFits (G.meaning accepted.now.alg.now) s → Fitted (written (system_by (G.meaning accepted.now.alg.now) plan.now s)) out.old out.new result }
 {
     let mut buffer = [0u8; LONGEST];
     let len = draft(accepted, plan, &mut buffer)?;
@@ -306,8 +304,7 @@ pub(crate) fn apply_planned<G: Algebra, P: Fn(&Accepted<G>) -> Result<Plan, Miss
     planned: P,
 ) -> Result<usize, PassFault>
     requires { P.IsAlwaysCallable planned }
-    ensures fronts { Fronts out.old out.new result }
-    ensures meant { (m : Pass) → ((x : _) (r : _) → P.post planned x r → PlansAs m (G.meaning x.now.alg.now) x.now.file.now x.now.outline.now r) → Applies (applied m (G.meaning alg.now) (length out.old) file.now) out.old out.new result }
+    ensures { (m : Pass) → ((x : _) (r : _) → P.post planned x r → PlansAs m (G.meaning x.now.alg.now) x.now.file.now x.now.outline.now r) → Applies (applied m (G.meaning alg.now) (length out.old) file.now) out.old out.new result }
 {
     let outline = read(alg, file)?;
     let accepted = Accepted {

@@ -1,6 +1,17 @@
 //! U: only the equations that the start leads to, over any number of occurrences, stay.
+ghost use Rattle.std.specs.Prelude.{◌≡◌, ℕ, ◌≤◌, List, length, true};
+ghost use Rattle.definitions.specs.Systems.{Clause as ReadClause, Equation as ReadEquation, System};
+ghost use Rattle.definitions.specs.Reading.{next};
+ghost use Rattle.definitions.specs.ReadSystem.{Scope, Header as Heading, read_body};
+ghost use Rattle.definitions.specs.Lists.{some};
 ghost use Rattle.definitions.specs.Passes.{pass_u};
+ghost use Rattle.definitions.specs.Fits.{SystemFits};
+ghost use Rattle.firstcome.specs.Coming.{listed as came};
+ghost use Rattle.system.specs.Whole.{kept_headers, Outlined};
+ghost use Rattle.system.specs.Walks.{ClauseOf, Pairs};
 ghost use Rattle.passes.specs.Meanings.{u_rules};
+ghost use Rattle.passes.specs.Plans.{keeping, Planning};
+ghost use Rattle.passes.specs.Comes.{Brings, Called, Targets, Gathers, Keeping, Led, Room, is_number, reached};
 
 use crate::Pass;
 use crate::plan::{EquationChange, Missing, Plan};
@@ -8,7 +19,7 @@ use crate::rewrite::apply_planned;
 use algebra::Algebra;
 use faults::PassFault;
 use firstcome::FirstCome;
-use system::walk::Accepted;
+use system::walk::{Accepted, ClauseAt, OccurrenceAt};
 
 /// The pass U.
 #[derive(Clone, Copy, PartialEq, Eq, Debug)]
@@ -20,22 +31,65 @@ pub struct EquationNumber {
     pub index: usize,
 }
 
+// The targets of the occurrences come.
+fn targets_come(
+    occurrences: &[OccurrenceAt],
+    list: &mut FirstCome<EquationNumber>,
+) -> Result<(), Missing>
+    ensures { Gathers (Targets occurrences.now) list.old list.new result }
+{
+    for occurrence in occurrences {
+        let target = EquationNumber {
+            index: occurrence.target as usize,
+        };
+        list.come(target).ok_or(Missing)?;
+    }
+    Ok(())
+}
+
+// The targets of the clauses' occurrences come.
+fn called_come<G: Algebra>(
+    accepted: &Accepted<G>,
+    clauses: &[ClauseAt],
+    list: &mut FirstCome<EquationNumber>,
+) -> Result<(), Missing>
+    ensures { (c : Scope) (ks : List ReadClause) → length accepted.now.file.now ≤ 65536 → Pairs (λ x k. (u : ℕ) × ClauseOf (G.meaning accepted.now.alg.now) (kept_headers accepted.now.outline.now) c accepted.now.file.now k u x) clauses.now ks → Gathers (Called ks) list.old list.new result }
+{
+    for clause in clauses {
+        let occurrences = accepted.occurrences(clause).ok_or(Missing)?;
+        targets_come(occurrences.as_slice(), list)?;
+    }
+    Ok(())
+}
+
 // The targets of the occurrences of the body at the place come.
-fn targets_come<G: Algebra>(
+fn body_leads<G: Algebra>(
     accepted: &Accepted<G>,
     at: usize,
     list: &mut FirstCome<EquationNumber>,
-) -> Result<(), Missing> {
+) -> Result<(), Missing>
+    ensures { (h : Heading) (e : ReadEquation) (q : ℕ) → length accepted.now.file.now ≤ 65536 → read_body (G.meaning accepted.now.alg.now) (kept_headers accepted.now.outline.now) h accepted.now.file.now at ≡ next e q → Gathers (Called e.clauses) list.old list.new result }
+{
     let body = accepted.open_body(at).ok_or(Missing)?;
     let clauses = accepted.clauses(&body).ok_or(Missing)?;
-    for clause in clauses.as_slice() {
-        let occurrences = accepted.occurrences(clause).ok_or(Missing)?;
-        for occurrence in occurrences.as_slice() {
-            let target = EquationNumber {
-                index: occurrence.target as usize,
-            };
-            list.come(target).ok_or(Missing)?;
-        }
+    called_come(accepted, clauses.as_slice(), list)
+}
+
+// The targets of the occurrences of all equations that come come.
+fn followed<G: Algebra>(
+    accepted: &Accepted<G>,
+    list: &mut FirstCome<EquationNumber>,
+) -> Result<(), Missing>
+    ensures { (s : System) → length accepted.now.file.now ≤ 65536 → Outlined (G.meaning accepted.now.alg.now) accepted.now.file.now s accepted.now.outline.now → SystemFits (G.meaning accepted.now.alg.now) s → Room (reached s) list.old → Brings (reached s) (Led s (came list.new) (length (came list.new))) list.old list.new result }
+{
+    let equations = accepted.outline.equations.as_slice();
+    // Each equation comes once. The list grows while it is walked, so no iterator can hold it.
+    for k in 0..31 {
+        let Some(number) = list.get(k) else {
+            return Ok(());
+        };
+        let equation = equations.get(number.index).ok_or(Missing)?;
+        body_leads(accepted, equation.body, list)?;
     }
     Ok(())
 }
@@ -44,35 +98,38 @@ fn targets_come<G: Algebra>(
 fn reached_come<G: Algebra>(
     accepted: &Accepted<G>,
     list: &mut FirstCome<EquationNumber>,
-) -> Result<(), Missing> {
-    let equations = accepted.outline.equations.as_slice();
+) -> Result<(), Missing>
+    ensures { (s : System) → length accepted.now.file.now ≤ 65536 → Outlined (G.meaning accepted.now.alg.now) accepted.now.file.now s accepted.now.outline.now → SystemFits (G.meaning accepted.now.alg.now) s → Room (reached s) list.old → Brings (reached s) (λ x. reached s x ≡ true) list.old list.new result }
+{
     let start = EquationNumber {
         index: accepted.outline.start.equation as usize,
     };
     list.come(start).ok_or(Missing)?;
-    // Each equation comes once. The list grows while it is walked, so no iterator can hold it.
-    for k in 0..31 {
-        let Some(number) = list.get(k) else {
-            return Ok(());
-        };
-        let equation = equations.get(number.index).ok_or(Missing)?;
-        targets_come(accepted, equation.body, list)?;
+    followed(accepted, list)
+}
+
+// The plan by which the equations that came stay, and the others go.
+fn plan_keeping(list: &FirstCome<EquationNumber>) -> Plan
+    ensures { Keeping (λ i. some (is_number i) (came list.now)) result }
+{
+    let mut plan = Plan::none();
+    // By index: of what an adapter of `iter_mut` has written a proof knows nothing afterwards.
+    for index in 0..31 {
+        if list.find(&EquationNumber { index }).is_none() {
+            plan.equations[index].equation = EquationChange::Goes;
+        }
     }
-    Ok(())
+    plan
 }
 
 // Only the equations that are reached stay.
-fn plan_reachable<G: Algebra>(accepted: &Accepted<G>) -> Result<Plan, Missing> {
+fn plan_reachable<G: Algebra>(accepted: &Accepted<G>) -> Result<Plan, Missing>
+    ensures { (s : System) → length accepted.now.file.now ≤ 65536 → Outlined (G.meaning accepted.now.alg.now) accepted.now.file.now s accepted.now.outline.now → Planning (keeping s) result }
+{
     let mut room = [EquationNumber { index: 0 }; 31];
     let mut list = FirstCome::new(&mut room);
     reached_come(accepted, &mut list)?;
-    let mut plan = Plan::none();
-    for (index, change) in plan.equations.iter_mut().enumerate() {
-        if list.find(&EquationNumber { index }).is_none() {
-            change.equation = EquationChange::Goes;
-        }
-    }
-    Ok(plan)
+    Ok(plan_keeping(&list))
 }
 
 impl Pass for Unreachable {

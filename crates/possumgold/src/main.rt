@@ -4,6 +4,12 @@
 
 #![tactic(auto)]
 
+ghost use Rattle.std.specs.Prelude.{◌≡◌, ℕ, List, Ok, Err};
+ghost use Rattle.definitions.specs.Lists.{at};
+ghost use Rattle.algebra.specs.Tabled.{tabled};
+ghost use Rattle.bench.specs.Holds.{holding};
+ghost use Rattle.possumgold.specs.Told.{files, Put, Since, IsVerdict, Answers};
+
 use algebra::Table;
 use bench::Bench;
 use boolean::solving::solve;
@@ -57,7 +63,10 @@ impl From<AllocError> for Stopped {
 }
 
 // The table file and the system file of an input. Fewer than two bytes are no length and no files; a table file may break off.
-fn split_input(input: &[u8]) -> (&[u8], &[u8]) {
+fn split_input(input: &[u8]) -> (&[u8], &[u8])
+    ensures table { result.0.now ≡ (files input.now).0 }
+    ensures system { result.1.now ≡ (files input.now).1 }
+{
     let Some((length, files)) = input.split_first_chunk::<2>() else {
         return (&[], &[]);
     };
@@ -65,17 +74,26 @@ fn split_input(input: &[u8]) -> (&[u8], &[u8]) {
     files.split_at_checked(length).unwrap_or((files, &[]))
 }
 
-// Puts the system on the bench, over the algebra of the table, and settles it.
-fn settle(
+// A bench with the system on it, settled over the algebra of the table.
+fn settled(
     table: &mut Table,
-    bench: &mut Bench,
     table_file: &[u8],
     system_file: &[u8],
-) -> Result<(), Fault> {
+) -> Result<Bench, Fault>
+    ensures { elim result [ Ok bench ↦ Put table.new table_file.now system_file.now bench | Err _ ↦ Unit {0} ] }
+{
     table.fill(table_file)?;
+    let mut bench = Bench::new();
     bench.load(table, system_file)?;
     bench.settle(table)?;
-    Ok(())
+    Ok(bench)
+}
+
+// The first byte, where there is one.
+fn first(bytes: &[u8]) -> Option<u8>
+    ensures { result ≡ at bytes.now 0 }
+{
+    bytes.first().copied()
 }
 
 // Expands the held system and solves it, in lent memory.
@@ -85,12 +103,13 @@ fn decide(
     work: &mut [Instance],
     file: &mut [u8],
     truths: &mut [u8],
-) -> Result<Verdict, Fault> {
+) -> Result<Verdict, Fault>
+    ensures { (f : List ℕ) → Since (tabled table.now) f (holding bench.now) → elim result [ Ok v ↦ IsVerdict (tabled table.now) f v.truth | Err _ ↦ Unit {0} ] }
+{
     let expansion = bench.expand(table, work, file)?;
-    let boolean = file.get(..expansion.len).unwrap_or(file);
-    let variables = solve(boolean, truths)?;
+    let variables = solve(&file[..expansion.len], truths)?;
     Ok(Verdict {
-        truth: truths.first() == Some(&1),
+        truth: first(truths) == Some(1),
         variables,
     })
 }
@@ -105,11 +124,12 @@ fn print_settled(rt: &HostRuntime, file: &[u8]) -> io::Result<()> {
 }
 
 // Prints the settled file of an input, and tells the verdict.
-fn answer(rt: &HostRuntime, input: &[u8]) -> Result<Verdict, Stopped> {
+fn answer(rt: &HostRuntime, input: &[u8]) -> Result<Verdict, Stopped>
+    ensures { elim result [ Ok v ↦ Answers input.now v.truth | Err _ ↦ Unit {0} ] }
+{
     let (table_file, system_file) = split_input(input);
     let mut table = Table::new();
-    let mut bench = Bench::new();
-    settle(&mut table, &mut bench, table_file, system_file)?;
+    let bench = settled(&mut table, table_file, system_file)?;
     print_settled(rt, bench.held())?;
     let heap = rt.alloc();
     let nobody = Instance::default();

@@ -6,6 +6,7 @@ pub mod Blocks
 pub mod BooleanBack
 pub mod BooleanForth
 pub mod Closing
+pub mod Coming
 pub mod Cut
 pub mod Enough
 pub mod Evaluates
@@ -17,9 +18,12 @@ pub mod FitShapes
 pub mod FitsC
 pub mod FitsCut
 pub mod FitsF
+pub mod Following
 pub mod Forms
 pub mod Forth
 pub mod Goods
+pub mod Gathered
+pub mod Growing
 pub mod Histories
 pub mod KeepsC
 pub mod KeepsCut
@@ -43,6 +47,7 @@ pub mod Rounding
 pub mod RoundStrict
 pub mod Settled
 pub mod Shapes
+pub mod Shipping
 pub mod Solutions
 pub mod Sounds
 pub mod Stable

@@ -118,7 +118,7 @@ come_grows ns (x ∷ xs) = go (come_grows ns xs) (come_grows (ns ++ (x ∷ [])) 
     go p q true = p
     go p q false = grows_snoc ns x q
 
-come_has : (ns xs : List Instance) → Every (Has (come ns xs)) xs
+pub come_has : (ns xs : List Instance) → Every (Has (come ns xs)) xs
 come_has ns [] = tt
 come_has ns (x ∷ xs) = go (come_has ns xs) (come_has (ns ++ (x ∷ [])) xs) (some (same_instance x) ns) refl
   where
@@ -198,7 +198,7 @@ module _ (a : Alg) (s : System) where
       go p (Some x) = p x (come_distinct ns (vars (form a s x)) d)
 
   -- one more is closed
-  more_closed : (k : ℕ) (ns : List Instance) (x : Instance) → at ns k ≡ Some x → Closed ns ns k →
+  pub more_closed : (k : ℕ) (ns : List Instance) (x : Instance) → at ns k ≡ Some x → Closed ns ns k →
       Closed (come ns (vars (form a s x))) (come ns (vars (form a s x))) (suc k)
   more_closed k ns x e c j y l h = go (dec_lt j k)
     where

@@ -28,7 +28,7 @@ mutual
     shapes_nil : {d : ℕ} → Shapes d nil
     shapes_cons : {d : ℕ} {p : Form I} {ps : Forms I} → Shape d p → Shapes d ps → Shapes d (cons p ps)
 
-renamed_count : {I J : Type 0} (ps : Forms I) (g : I → J) → count (renamed_all ps g) ≡ count ps
+pub renamed_count : {I J : Type 0} (ps : Forms I) (g : I → J) → count (renamed_all ps g) ≡ count ps
 renamed_count nil g = refl
 renamed_count (cons p ps) g = ap suc (renamed_count ps g)
 

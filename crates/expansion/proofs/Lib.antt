@@ -1,0 +1,10 @@
+mod Counting
+mod Drafting
+mod Inside
+mod Made
+mod Meanings
+mod Naming
+mod Numbering
+mod Values
+mod Variables
+mod Walking
