@@ -112,7 +112,7 @@ module _ (f : List ℕ) where
     good_target : (hs : List Header) (i : ℕ) (h : Header) → i < 32 → at hs i ≡ Some h → Good f (read_target hs) (i, h) (bits 5 i)
     good_target hs i h l e = good_for 5 i (λ j. bind (at hs j) (λ k. Some (j, k))) NoSuchName (i, h) l (rw e refl)
 
-    good_term : (c : Scope) (s : ℕ) (t : Term) → Fits a c 32 s t → Good f (read_of a c s) t (term_bits t)
+    pub good_term : (c : Scope) (s : ℕ) (t : Term) → Fits a c 32 s t → Good f (read_of a c s) t (term_bits t)
     good_term c s t k = good_last (λ (x : Sorted). x.the_term) (plain c s t k)
       where
         plain : (c : Scope) (s : ℕ) (t : Term) → Fits a c 32 s t → Good f (read_term a c 32 (Some s)) (record { the_term = t; the_sort = s }) (term_bits t)
@@ -137,7 +137,7 @@ module _ (f : List ℕ) where
           good_then _ _ (good_target hs o.target k.header k.small k.there)
           (good_last (λ ts. record { target = o.target; arguments = ts }) (good_rows (read_of a c) term_bits (term_rows c k.header.sorts o.arguments k.fit)))
 
-      good_clause : (c : Scope) (k : Clause) → ClauseFits a hs c k → Good f (read_clause a hs c) k (clause_bits k)
+      pub good_clause : (c : Scope) (k : Clause) → ClauseFits a hs c k → Good f (read_clause a hs c) k (clause_bits k)
       good_clause c k h =
           let n = length k.occurrences - 1 in
           let e : length k.occurrences ≡ suc n = omega (arith, h.some) in

@@ -236,7 +236,7 @@ module _ (f : List ℕ) where
             record { guard = r₁.1; some = omega (arith, r₃.1); few = omega (arith, r₃.1, r₂.1); fit = r₃.2 },
           ))))
 
-      sound_body : (h : Header) → Sound f (read_body a hs h) (λ e bs. (bs ≡ body_bits e) × ((header_of e ≡ h) × BodyFits a hs e))
+      pub sound_body : (h : Header) → Sound f (read_body a hs h) (λ e bs. (bs ≡ body_bits e) × ((header_of e ≡ h) × BodyFits a hs e))
       sound_body h =
           sound_then _ _ _ (sound_term (scope h) 0) (λ t b₁ r₁.
           sound_then _ _ _ (sound_take 4) (λ n b₂ r₂.

@@ -67,7 +67,7 @@ header_bits_lem e =
 occurrence_bits_lem : (o : Occurrence) → Bits (occurrence_bits o)
 occurrence_bits_lem o = join (bits 5 o.target) _ (number_bits 5 o.target) (flat_bits term_bits term_bits_lem o.arguments)
 
-clause_bits_lem : (c : Clause) → Bits (clause_bits c)
+pub clause_bits_lem : (c : Clause) → Bits (clause_bits c)
 clause_bits_lem c =
     join (term_bits c.guard) _ (term_bits_lem c.guard)
     (join (bits 3 (length c.occurrences - 1)) _ (number_bits 3 (length c.occurrences - 1)) (flat_bits occurrence_bits occurrence_bits_lem c.occurrences))

@@ -1,0 +1,10 @@
+pub mod Lengths
+pub mod Reading
+pub mod Writing
+pub mod Comparing
+pub mod Copying
+pub mod Along
+pub mod Walking
+pub mod Bodies
+pub mod Systems
+pub mod Files

@@ -1,0 +1,3 @@
+pub mod Repeats
+pub mod Keeping
+pub mod Pieces
