@@ -8,3 +8,4 @@ pub mod Walking
 pub mod Bodies
 pub mod Systems
 pub mod Files
+pub mod Truths

@@ -1,3 +1,5 @@
-pub mod Repeats
 pub mod Keeping
+pub mod Lamps
 pub mod Pieces
+pub mod Repeats
+pub mod Verdicts

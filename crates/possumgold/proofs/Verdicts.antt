@@ -1,5 +1,5 @@
 -- The verdict from the histories of a bench.
-use Rattle.std.proofs.Common.{◌≡◌, ℕ, nat_eq, Bool, true, false, List, ◌∷◌, take, Some, Ok, Option, sym, refl, inl, ap, ◌∙◌}
+use Rattle.std.proofs.Common.{◌≡◌, ℕ, nat_eq, Bool, true, false, List, take, Some, Ok, Option, refl, inl, ap, ◌∙◌}
 use Rattle.std.specs.Option.{option_eq}
 use Rattle.definitions.specs.Lists.{at}
 use Rattle.definitions.specs.Alg.{Alg, Lawful}

@@ -75,11 +75,7 @@ fn split_input(input: &[u8]) -> (&[u8], &[u8])
 }
 
 // A bench with the system on it, settled over the algebra of the table.
-fn settled(
-    table: &mut Table,
-    table_file: &[u8],
-    system_file: &[u8],
-) -> Result<Bench, Fault>
+fn settled(table: &mut Table, table_file: &[u8], system_file: &[u8]) -> Result<Bench, Fault>
     ensures { elim result [ Ok bench ↦ Put table.new table_file.now system_file.now bench | Err _ ↦ Unit {0} ] }
 {
     table.fill(table_file)?;

@@ -7,8 +7,7 @@ use Rattle.possumgold.proofs.answer.Goals as goal
 pub returns : goal.returns
 returns c =
     let put = c.in_ok-bench.ensures in
-    let table = c.settled.new.table in
-    (
+    let table = c.settled.new.table in (
       table,
       (
         ap table_reading (sym c.split_input.ensures.table) ∙ put.0,
