@@ -5,7 +5,7 @@ use Rattle.definitions.specs.Bits.{bits, Stands}
 use Rattle.definitions.specs.Alg.{Alg, Lawful}
 use Rattle.definitions.specs.Systems.{Term, Clause, Equation}
 use Rattle.definitions.specs.Reading.{next, follow, take, repeated}
-use Rattle.definitions.specs.ReadSystem.{Scope, Header, Sorted, scope, greatest_depth, read_kind, read_term, read_of, read_clause, read_body}
+use Rattle.definitions.specs.ReadSystem.{Header, Sorted, scope, greatest_depth, read_kind, read_term, read_of, read_clause, read_body}
 use Rattle.definitions.specs.Written.{term_bits, clause_bits, body_bits}
 use Rattle.definitions.specs.Fits.{Every, BodyFits, header_of}
 use Rattle.theorems.proofs.Fields.{stands_left, stands_right, stands_most, takes, took}

@@ -1,9 +1,9 @@
 -- Comparing two pieces bit by bit.
-use Rattle.std.proofs.Common.{◌≡◌, ℕ, zero, suc, ◌+◌, ◌*◌, ◌<◌, ◌≤◌, Bool, true, false, not, ◌&&◌, eqb, List, [], ◌∷◌, length, Some, None, Option, sym, refl, ap, ◌∙◌, subst, arith}
+use Rattle.std.proofs.Common.{◌≡◌, ℕ, suc, ◌+◌, ◌<◌, ◌≤◌, Bool, true, false, not, ◌&&◌, eqb, List, [], ◌∷◌, length, Some, Option, sym, refl, ap, ◌∙◌, subst, arith}
 use Rattle.std.specs.Option.{option_eq}
 use Rattle.definitions.specs.Lists.{same}
-use Rattle.definitions.specs.Bits.{bits, bit_at, Stands}
-use Rattle.definitions.specs.Reading.{next, stop, take}
+use Rattle.definitions.specs.Bits.{Stands}
+use Rattle.definitions.specs.Reading.{take}
 use Rattle.bits.specs.Took.{took}
 use Rattle.bits.specs.declared.reader.BitReader.{BitReader}
 use Rattle.outsider.specs.declared.pieces.Piece.{Piece}

@@ -1,5 +1,5 @@
 -- How many bits what is written has.
-use Rattle.std.proofs.Common.{◌≡◌, ℕ, suc, ◌+◌, ◌*◌, List, [], ◌∷◌, ◌++◌, map, length, sym, refl, ap₂, ◌∙◌, arith, length-append}
+use Rattle.std.proofs.Common.{◌≡◌, ℕ, ◌+◌, ◌*◌, List, [], ◌∷◌, ◌++◌, map, length, sym, refl, ap₂, ◌∙◌, arith, length-append}
 use Rattle.std.proofs.Math.Nat.{suc-mul, add_comm}
 use Rattle.definitions.specs.Lists.{flat}
 use Rattle.definitions.specs.Bits.{bits}

@@ -1,9 +1,7 @@
 -- Reading bit by bit what stands in a file.
-use Rattle.std.proofs.Common.{◌≡◌, ℕ, zero, suc, ◌+◌, ◌*◌, ◌<◌, ◌≤◌, Bool, true, false, ◌&&◌, eqb, List, [], ◌∷◌, length, Some, None, Option, sym, refl, ap, ◌∙◌, subst, arith}
-use Rattle.std.proofs.lemmas.Bool.{eqb-true, ne_eqb}
-use Rattle.definitions.specs.Lists.{same}
+use Rattle.std.proofs.Common.{◌≡◌, ℕ, zero, suc, ◌+◌, ◌*◌, ◌<◌, ◌≤◌, List, [], ◌∷◌, length, Some, None, Option, sym, refl, ap, ◌∙◌, subst, arith}
 use Rattle.definitions.specs.Bits.{bits, bit_at, Stands}
-use Rattle.definitions.specs.Reading.{next, stop, take}
+use Rattle.definitions.specs.Reading.{next, take}
 use Rattle.bits.specs.Took.{took}
 use Rattle.theorems.proofs.Fields.{takes}
 

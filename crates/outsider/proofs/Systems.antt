@@ -1,12 +1,11 @@
 -- The bits of a system: its headers, its bodies and its start.
-use Rattle.std.proofs.Common.{◌≡◌, ℕ, zero, suc, ◌+◌, ◌*◌, ◌≤◌, List, [], ◌∷◌, ◌++◌, map, length, Some, None, Option, sym, refl, ap, ap₂, ◌∙◌, subst, append_assoc, zero-add, arith, length-append}
+use Rattle.std.proofs.Common.{◌≡◌, ℕ, suc, ◌+◌, ◌*◌, List, [], ◌∷◌, ◌++◌, map, length, Some, None, Option, sym, refl, ap, ◌∙◌, subst, append_assoc, zero-add, arith, length-append}
 use lib.ListN.{length-map}
 use Rattle.definitions.specs.Lists.{at, flat, or_else}
 use Rattle.definitions.specs.Bits.{bits, Stands}
 use Rattle.definitions.specs.Alg.{Alg, Lawful}
 use Rattle.definitions.specs.Systems.{Equation, System}
-use Rattle.definitions.specs.Reading.{next}
-use Rattle.definitions.specs.ReadSystem.{Header, read_system}
+use Rattle.definitions.specs.ReadSystem.{Header}
 use Rattle.definitions.specs.Written.{header_bits, body_bits, system_bits}
 use Rattle.definitions.specs.Fits.{ValuesFit, SystemFits, header_of}
 use Rattle.theorems.proofs.Fields.{stands_left, stands_right}
@@ -19,7 +18,6 @@ use Rattle.system.specs.declared.outline.Outline.{Outline}
 use Rattle.system.specs.Files.{kept_header}
 use Rattle.system.specs.Walks.{Pairs}
 use Rattle.system.specs.Whole.{Outlined}
-use Rattle.system.proofs.Lists.{at_item}
 use Rattle.outsider.specs.declared.pieces.Piece.{Piece}
 use Rattle.outsider.specs.Repeats.{equation_without_repeats, without_repeats}
 use Rattle.outsider.specs.Pieces.{Made, HeaderThere}

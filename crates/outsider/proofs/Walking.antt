@@ -1,12 +1,11 @@
 -- Walking through the clauses of a body, keeping those that repeat no earlier one.
-use Rattle.std.proofs.Common.{◌≡◌, ℕ, suc, ◌+◌, ◌<◌, ◌≤◌, Bool, true, false, List, [], ◌∷◌, ◌++◌, map, length, Some, None, Option, sym, refl, ap, ◌∙◌, subst, append_assoc, arith, length-append}
+use Rattle.std.proofs.Common.{◌≡◌, ℕ, ◌+◌, ◌<◌, ◌≤◌, Bool, true, false, List, [], ◌∷◌, ◌++◌, map, length, Some, Option, sym, refl, ap, ◌∙◌, subst, append_assoc, arith}
 use Rattle.std.proofs.lemmas.List.{append-nil}
 use Rattle.definitions.specs.Lists.{flat, some, same}
 use Rattle.definitions.specs.Bits.{Stands}
 use Rattle.definitions.specs.Alg.{Alg}
 use Rattle.definitions.specs.Systems.{Clause}
-use Rattle.definitions.specs.Reading.{next}
-use Rattle.definitions.specs.ReadSystem.{Scope, Header, read_clause}
+use Rattle.definitions.specs.ReadSystem.{Scope, Header}
 use Rattle.definitions.specs.Written.{clause_bits}
 use Rattle.definitions.specs.Fits.{Every, ClauseFits}
 use Rattle.theorems.proofs.Fields.{stands_left, stands_right}

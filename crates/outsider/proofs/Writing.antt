@@ -1,11 +1,10 @@
 -- Writing piece by piece.
-use Rattle.std.proofs.Common.{◌≡◌, ℕ, Bool, List, [], ◌∷◌, ◌++◌, map, length, Ok, Err, Result, IsErr, refl, ap, sym, ◌∙◌, subst, arith}
+use Rattle.std.proofs.Common.{◌≡◌, ℕ, List, [], ◌++◌, Ok, Err, Result, IsErr, sym, subst}
 use Rattle.std.proofs.lemmas.List.{append-nil}
 use Rattle.bits.specs.declared.writer.BitWriter.{BitWriter}
 use Rattle.bits.specs.declared.writer.Full.{Full}
-use Rattle.bits.specs.Writes.{Wrote, NoRoom, Writes, Left}
-use Rattle.bits.proofs.Left.{left_first, left_next, left_stop, left_end}
-
+use Rattle.bits.specs.Writes.{NoRoom, Writes, Left}
+use Rattle.bits.proofs.Left.{left_next, left_stop, left_end}
 
 -- where a piece has no room, nothing is written
 pub left_none : {T : Type 0} {bs : List ℕ} {old now : BitWriter} (cs rest : List ℕ) (new : BitWriter) (r : Result T Full) → IsErr r → Left bs (cs ++ rest) old now → NoRoom cs now → Writes bs old new r

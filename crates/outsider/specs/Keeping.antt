@@ -1,21 +1,21 @@
 -- Repeats keeps the rules of a pass.
-use Rattle.std.proofs.Common.{◌≡◌, ℕ, zero, suc, ◌+◌, ◌≤◌, ◌<◌, ◌&&◌, eqb, Bool, true, false, List, [], ◌∷◌, map, length, Some, sym, refl, ap, ◌∙◌, subst, arith}
+use Rattle.std.proofs.Common.{◌≡◌, ℕ, zero, suc, ◌+◌, ◌≤◌, ◌<◌, Bool, true, false, List, [], ◌∷◌, map, length, Some, sym, refl, ap, ◌∙◌, subst, arith}
 use mathlib.Core.Path.{fun_ext}
 use mathlib.Core.Bool.{false≢true}
 use lib.ListN.{length-map}
 use Rattle.definitions.specs.Lists.{at, each, some, map_from}
 use Rattle.definitions.specs.Bits.{packed, Stands}
-use Rattle.definitions.specs.Alg.{Alg, Lawful}
+use Rattle.definitions.specs.Alg.{Alg}
 use Rattle.definitions.specs.Systems.{Clause, Equation, System}
 use Rattle.definitions.specs.Reading.{next}
-use Rattle.definitions.specs.ReadSystem.{Scope, Header, scope, read_clause}
+use Rattle.definitions.specs.ReadSystem.{Scope, Header, scope}
 use Rattle.definitions.specs.Written.{clause_bits}
 use Rattle.definitions.specs.Fits.{Every, header_of, HeaderFits, ClauseFits, BodyFits, SystemFits}
 use Rattle.definitions.specs.Truth.{Instance, clause_holds, inside_holds, equation_holds, body, block_of, verdict}
 use Rattle.definitions.specs.Rules.{Rules}
 use Rattle.fixpoint.specs.Laws.{Agree, Matched}
 use Rattle.fixpoint.proofs.Rounds.{pick}
-use Rattle.theorems.proofs.Listing.{same_eq, every_at, every_map, every_mapped, map_twice}
+use Rattle.theorems.proofs.Listing.{same_eq, every_map, every_mapped, map_twice}
 use Rattle.theorems.proofs.Packs.{packs}
 use Rattle.theorems.proofs.Whole.{clause_bits_lem}
 use Rattle.theorems.proofs.Goods.{good_clause}

@@ -1,4 +1,4 @@
-use Rattle.std.proofs.Common.{◌≡◌, ℕ, ◌+◌, ◌*◌, length, sym, ap, ◌∙◌, arith}
+use Rattle.std.proofs.Common.{◌≡◌, length, ap, ◌∙◌, arith}
 use lib.ListN.{length-map}
 use Rattle.definitions.specs.ReadSystem.{Header}
 use Rattle.rows.specs.Listed.{listed}

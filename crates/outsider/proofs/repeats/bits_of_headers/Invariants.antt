@@ -1,4 +1,4 @@
-use Rattle.std.proofs.Common.{◌≡◌, ℕ, ◌+◌, ◌*◌, ◌≤◌, List, length, drop}
+use Rattle.std.proofs.Common.{◌+◌, ◌*◌, ◌≤◌, List, drop}
 use Rattle.definitions.specs.Systems.{Equation}
 use Rattle.definitions.specs.Written.{header_bits}
 use Rattle.system.specs.declared.outline.Equation.{Equation as Told}

@@ -1,4 +1,4 @@
-use Rattle.std.proofs.Common.{◌≡◌, ℕ, ◌+◌, [], map, Option, sym, refl, ap, ◌∙◌, subst, arith}
+use Rattle.std.proofs.Common.{[], map, Option, sym, subst}
 use Rattle.definitions.specs.Lists.{flat}
 use Rattle.definitions.specs.Bits.{Stands}
 use Rattle.definitions.specs.ReadSystem.{scope}

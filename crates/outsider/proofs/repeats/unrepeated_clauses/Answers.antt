@@ -1,11 +1,10 @@
-use Rattle.std.proofs.Common.{◌≡◌, ℕ, ◌+◌, ◌<◌, [], ◌∷◌, Some, length, length-append, sym, refl, ap, ◌∙◌, subst, arith}
+use Rattle.std.proofs.Common.{◌≡◌, ◌+◌, [], ◌∷◌, length, length-append, sym, ap, ◌∙◌, subst, arith}
 use Rattle.rows.specs.Listed.{listed}
 use Rattle.system.specs.Whole.{kept_headers}
 use Rattle.system.specs.Walks.{Pairs}
 use Rattle.outsider.specs.Pieces.{Holds}
 use Rattle.outsider.proofs.repeats.unrepeated_clauses.Goals.{then-not-repeats_one, else-not-repeats_one}
 use Rattle.theorems.proofs.Listing.{none_some, some_same}
-use Rattle.outsider.specs.declared.pieces.Piece.{Piece}
 use Rattle.outsider.proofs.Walking.{Walking, walking_first, upcoming, its_bits, its_end, its_piece, walking_skip, walking_add, walking_end}
 use Rattle.outsider.proofs.repeats.unrepeated_clauses.Goals as goal
 

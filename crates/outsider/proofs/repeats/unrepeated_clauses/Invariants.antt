@@ -1,4 +1,4 @@
-use Rattle.std.proofs.Common.{◌≡◌, ℕ, ◌≤◌, List, length, map}
+use Rattle.std.proofs.Common.{◌≡◌, ◌≤◌, List, length, map}
 use Rattle.definitions.specs.Lists.{flat}
 use Rattle.definitions.specs.Bits.{Stands}
 use Rattle.definitions.specs.Systems.{Clause}

@@ -1,4 +1,4 @@
-use Rattle.std.proofs.Common.{ℕ, ◌≤◌, List, length, drop}
+use Rattle.std.proofs.Common.{◌≤◌, List, length, drop}
 use Rattle.definitions.specs.Systems.{Equation}
 use Rattle.definitions.specs.Written.{body_bits}
 use Rattle.system.specs.Whole.{kept_headers}

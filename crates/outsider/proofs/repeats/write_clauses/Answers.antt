@@ -1,4 +1,4 @@
-use Rattle.std.proofs.Common.{◌≡◌, ℕ, ◌+◌, ◌∷◌, length, drop, get_or, sym, ap, ◌∙◌, arith, drop_of_length-le}
+use Rattle.std.proofs.Common.{length, get_or, ap, arith, drop_of_length-le}
 use Rattle.definitions.specs.Written.{clause_bits}
 use Rattle.outsider.specs.declared.pieces.Piece.{Piece}
 use Rattle.outsider.specs.Pieces.{Holds}

@@ -1,4 +1,4 @@
-use Rattle.std.proofs.Common.{ℕ, ◌≤◌, List, length, drop}
+use Rattle.std.proofs.Common.{◌≤◌, List, length, drop}
 use Rattle.definitions.specs.Systems.{Clause}
 use Rattle.definitions.specs.Written.{clause_bits}
 use Rattle.system.specs.Walks.{Pairs}

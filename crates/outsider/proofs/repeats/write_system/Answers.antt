@@ -1,11 +1,10 @@
-use Rattle.std.proofs.Common.{◌≡◌, ℕ, ◌∷◌, ◌++◌, List, map, length, Some, sym, subst, ◌∙◌, arith}
+use Rattle.std.proofs.Common.{◌≡◌, ◌++◌, List, map, Some, sym, subst, ◌∙◌}
 use Rattle.definitions.specs.Lists.{at}
-use Rattle.definitions.specs.Systems.{Equation}
 use Rattle.definitions.specs.ReadSystem.{Header}
 use Rattle.definitions.specs.Written.{system_bits}
 use Rattle.definitions.specs.Fits.{Every, BodyFits}
 use Rattle.bits.proofs.Left.{left_first, left_next}
-use Rattle.rows.specs.Listed.{listed, listed_within}
+use Rattle.rows.specs.Listed.{listed}
 use Rattle.system.specs.declared.outline.Equation.{Equation as Told}
 use Rattle.system.specs.Files.{kept_header}
 use Rattle.system.specs.Walks.{Pairs}
@@ -55,7 +54,7 @@ returns-in_err-start g c = λ s short out fit.
     let x = c.index-equations-number.result in
     let there = o.present in
     let it = subst (λ (ts : List Told). Some (kept_header x.header) ≡ at (map (λ (e : Told). kept_header e.header) ts) o.start.equation) c.as_slice-equations.ensures
-        (at_item (λ (e : Told). kept_header e.header) c.as_slice-equations.result.now o.start.equation x (rw c.as_slice-equations.ensures there) c.index-equations-number.is) in
+    (at_item (λ (e : Told). kept_header e.header) c.as_slice-equations.result.now o.start.equation x (rw c.as_slice-equations.ensures there) c.index-equations-number.is) in
     let same = c.len.ensures.count ∙ start_values a law f s o out fit x it in
     absurd (start_there a law f s o out fit c.len.result same c.before-2.result c.before-2.ensures c.in_err-start.ensures.ok_part)
 
@@ -76,7 +75,7 @@ returns g c = λ s short out fit.
     let x = c.index-equations-number.result in
     let present = o.present in
     let it = subst (λ (ts : List Told). Some (kept_header x.header) ≡ at (map (λ (e : Told). kept_header e.header) ts) o.start.equation) c.as_slice-equations.ensures
-        (at_item (λ (e : Told). kept_header e.header) c.as_slice-equations.result.now o.start.equation x (rw c.as_slice-equations.ensures present) c.index-equations-number.is) in
+    (at_item (λ (e : Told). kept_header e.header) c.as_slice-equations.result.now o.start.equation x (rw c.as_slice-equations.ensures present) c.index-equations-number.is) in
     let same = c.len.ensures.count ∙ start_values a law f s o out fit x it in
     let y = c.copy-2 in
     left_last (start s) y.new.writer y.result l2 (y.ensures (start s) short (start_made a law f s o out fit c.len.result same c.before-2.result c.before-2.ensures c.in_ok-start.start c.in_ok-start.ensures.ok_part))

@@ -1,4 +1,4 @@
-use Rattle.std.proofs.Common.{◌≡◌, ℕ, ◌+◌, ◌<◌, length, sym, refl, ap, ◌∙◌, subst, arith}
+use Rattle.std.proofs.Common.{◌≡◌, ◌<◌, sym, refl, ◌∙◌, subst, arith}
 use Rattle.definitions.specs.Bits.{bits}
 use Rattle.bits.specs.Writes.{Wrote, NoRoom}
 use Rattle.theorems.proofs.Listing.{none_some, some_same}

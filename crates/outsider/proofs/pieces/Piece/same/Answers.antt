@@ -1,4 +1,4 @@
-use Rattle.std.proofs.Common.{◌≡◌, ℕ, ◌+◌, true, length, sym, refl, ap, ◌∙◌, arith}
+use Rattle.std.proofs.Common.{sym, refl, ◌∙◌, arith}
 use Rattle.outsider.proofs.Comparing.{Bitten, other_long, alike_first, alike_next, alike_other, alike_end}
 use Rattle.outsider.proofs.pieces.Piece.same.Goals as goal
 
