@@ -2,7 +2,6 @@
 ghost use Rattle.std.specs.Prelude.{◌≡◌, ◌+◌, ◌≤◌, ℕ, List, length, Some};
 ghost use Rattle.definitions.specs.Lists.{same};
 ghost use Rattle.bits.specs.Writes.{Writes};
-ghost use Rattle.outsider.specs.declared.pieces.Piece.{Piece as Part};
 ghost use Rattle.outsider.specs.Pieces.{Made};
 
 use bits::{BitReader, BitWriter, Full};

@@ -1,12 +1,11 @@
-//! Clauses that repeat an earlier one go.
+//! The pass Repeats: of the clauses of a body, each that repeats an earlier one goes.
 ghost use Rattle.std.specs.Prelude.{◌≡◌, ◌+◌, ◌≤◌, ◌++◌, ℕ, List, [], length, drop, map, ◌<◌, Ok, Err};
 ghost use Rattle.definitions.specs.Lists.{flat, some};
-ghost use Rattle.definitions.specs.Bits.{bits, Stands};
-ghost use Rattle.definitions.specs.Reading.{next};
-ghost use Rattle.definitions.specs.ReadSystem.{Scope, read_body};
+ghost use Rattle.definitions.specs.Bits.{Stands};
+ghost use Rattle.definitions.specs.ReadSystem.{Scope};
 ghost use Rattle.definitions.specs.Systems.{Clause, Equation as ReadEquation, System};
 ghost use Rattle.definitions.specs.Written.{term_bits, header_bits, clause_bits, body_bits, system_bits, written};
-ghost use Rattle.definitions.specs.Fits.{Every, ClauseFits, BodyFits, SystemFits, header_of};
+ghost use Rattle.definitions.specs.Fits.{Every, ClauseFits, BodyFits, SystemFits};
 ghost use Rattle.rows.specs.Listed.{listed};
 ghost use Rattle.bits.specs.Writes.{Writes};
 ghost use Rattle.system.specs.Whole.{kept_headers, Outlined};
@@ -149,7 +148,7 @@ fn write_system<G: Algebra>(accepted: &Accepted<G>, writer: &mut BitWriter) -> R
     start.copy(accepted.file, writer)
 }
 
-// The same in a buffer of its own, and how many bytes it has.
+// That file in a buffer of its own, and how many bytes it has.
 fn draft<G: Algebra>(accepted: &Accepted<G>, buffer: &mut [u8]) -> Result<usize, Full>
     ensures { (s : System) → length buffer.old ≤ 65536 → length accepted.now.file.now ≤ 65536 → Outlined (G.meaning accepted.now.alg.now) accepted.now.file.now s accepted.now.outline.now → SystemFits (G.meaning accepted.now.alg.now) s → elim result [ Ok n ↦ (n ≡ length (written (without_repeats (G.meaning accepted.now.alg.now) s))) × (n ≤ length buffer.old) × (buffer.new ≡ written (without_repeats (G.meaning accepted.now.alg.now) s) ++ drop n buffer.old) | Err _ ↦ length buffer.old < length (written (without_repeats (G.meaning accepted.now.alg.now) s)) ] }
 {
@@ -161,7 +160,7 @@ fn draft<G: Algebra>(accepted: &Accepted<G>, buffer: &mut [u8]) -> Result<usize,
     Ok(writer.close())
 }
 
-// Writes it to the front of `out`, and tells its length.
+// Writes that file to the front of `out`, and tells its length.
 fn write<G: Algebra>(accepted: &Accepted<G>, out: &mut [u8]) -> Result<usize, Full>
     ensures { (s : System) → length accepted.now.file.now ≤ 65536 → Outlined (G.meaning accepted.now.alg.now) accepted.now.file.now s accepted.now.outline.now → SystemFits (G.meaning accepted.now.alg.now) s → Fitted (written (without_repeats (G.meaning accepted.now.alg.now) s)) out.old out.new result }
 {
