@@ -21,7 +21,8 @@ use system::reading::read;
 impl Bench {
     /// A bench that holds nothing.
     ///
-    /// Its contract has the main theorem: whatever calls follow, the verdict of what is held is that of what was loaded.
+    /// Its contract has the main theorem: whatever calls follow, as long as one algebra serves since the last obeyed load, the
+    /// verdict of what is held is that of what was loaded.
     pub fn new() -> Bench
         ensures holds { holding result ≡ [] }
         ensures past { Past [] (holding result) }
@@ -132,7 +133,7 @@ impl Bench {
         ensures { Rounds (G.meaning alg.now) (holding self.old) (holding self.new) result }
     {
         let mut round = 1;
-        // It ends: each round but the last makes the system smaller.
+        // It ends: each round but the last makes the system's weight smaller, if not its file.
         loop {
             let before = *self;
             self.run_round(alg, round)?;

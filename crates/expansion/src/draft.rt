@@ -85,6 +85,7 @@ impl<'a, 'b> Draft<'a, 'b> {
     {
         let number = self.list.come(instance).ok_or(Unfinished)?;
         self.put_token(Token::Variable);
+        // A list has at most 4,096 places, so nothing is cut off here.
         self.put(number.min(4095) as u32, 12);
         Ok(())
     }

@@ -88,7 +88,7 @@ pub struct Fault {
 // A layer is told by the type of its fault. So those of table, read and solve are three types with the same fields, and those of
 // pass and expand two with cases of the same shape.
 
-/// Making or filling an algebra is declined.
+/// Filling an algebra is declined.
 #[derive(Clone, Copy, PartialEq, Eq, Debug)]
 pub struct TableFault {
     pub reason: Reason,
@@ -113,7 +113,7 @@ pub enum PassFault {
 #[derive(Clone, Copy, PartialEq, Eq, Debug)]
 pub struct Halt {
     pub fault: PassFault,
-    // The format of a refusal tells the letter's byte.
+    // A byte, as the program `vectors` prints it.
     pub letter: u8,
     pub round: usize,
 }

@@ -1,5 +1,5 @@
-//! Somebody else's algebra and pass, and a verdict by way of them. It uses what is public alone, and what it tells follows
-//! from the contracts of the library.
+//! Somebody else's algebra and pass, and a verdict by way of them. The code uses what is public alone. That the verdict is the
+//! loaded system's follows from contracts alone; that the pass keeps its contract cites lemmas of the library besides.
 
 #![tactic(auto)]
 

@@ -249,7 +249,7 @@ fn know_start(outline: &Outline) -> [Known; 31]
     knowledge
 }
 
-// The least knowledge that is stable: nothing that is brought is unknown to it.
+// The least knowledge that is stable: all that is brought is in it already.
 fn least_knowledge<G: Algebra>(accepted: &Accepted<G>) -> Result<[Known; 31], Missing>
     ensures { (s : System) → length accepted.now.file.now ≤ 65536 → Outlined (G.meaning accepted.now.alg.now) accepted.now.file.now s accepted.now.outline.now → Shaped s → Least (G.meaning accepted.now.alg.now) s result }
 {

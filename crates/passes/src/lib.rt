@@ -27,7 +27,7 @@ pub trait Pass {
 
     /// Writes the file of the meant system to the front of `out`, and tells its length.
     ///
-    /// A file that does not read, or a written one that fits neither `out` nor 8,192 bytes, is refused, and `out` stays.
+    /// It is refused, and `out` stays, where the file does not read, or the written one is longer than `out` or than 8,192 bytes.
     fn apply<G: Algebra>(&self, alg: &G, file: &[u8], out: &mut [u8]) -> Result<usize, PassFault>
         ensures { Applies (applied (meaning self.now) (G.meaning alg.now) (length out.old) file.now) out.old out.new result };
 

@@ -81,7 +81,7 @@ impl<'a, G: Algebra> Edit<'a, G> {
         }
     }
 
-    // The value and sort of the term at the view if it folds to a value term.
+    // The sort and value of the term at the view if it folds to a value term.
     fn folded(&self, term: Term, view: View, depth: u8) -> Option<(u8, u8)>
         ensures unfolded { self.now.plan.now.fold ≡ false → result ≡ None }
         ensures folds { self.now.plan.now.fold ≡ true → (t : Tree) → standing (G.meaning self.now.accepted.now.alg.now) depth view.entry.bytes.now view.entry.at ≡ Some t → result ≡ option_map (λ v. (sort_of (G.meaning self.now.accepted.now.alg.now) (kind_shown term.entry), v)) (known (G.meaning self.now.accepted.now.alg.now) [] t) }

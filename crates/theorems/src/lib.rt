@@ -280,7 +280,8 @@ pub fn calls_extend_histories()
     ensures { CallsExtendHistories }
 {}
 
-/// The main theorem: the verdict is kept in every history, and in every two that differ only in starting values that R removes.
+/// The main theorem: the verdict is kept in every history in which one algebra serves, and every two that differ only in
+/// starting values that R removes have one verdict.
 pub fn verdict_kept()
     ensures { VerdictKept }
 {}
