@@ -57,7 +57,7 @@ module _ (s : KeptSign) (body : (ℕ → Bool) → ℕ → Bool) (inside : ℕ �
         changes = λ e. absurd (false≢true e);
       }
 
-  module _ (m : Monotone order.truths body) (v : ℕ) (ts : List Bool) (c : Bool) (w : Swept s body inside (suc v) h (assigned ts) c) where
+  module _ (v : ℕ) (ts : List Bool) (c : Bool) (w : Swept s body inside (suc v) h (assigned ts) c) where
     pub swept_still : (ts' : List Bool) → Visited (moves_to s) body inside v ts ts' false → Swept s body inside v h (assigned ts') c
     swept_still ts' (same, rest) =
         subst (λ z. Swept s body inside v h (assigned z) c) (sym same)
@@ -75,9 +75,10 @@ module _ (s : KeptSign) (body : (ℕ → Bool) → ℕ → Bool) (inside : ℕ �
             (subst (λ (f : ℕ → Bool). Le (moving s) (body f v) (f v)) r.0 (moves_le s (body (assigned ts) v) (assigned ts v) (rest (ap inside (sym z) ∙ p))))
         go r x l p (no z) = r.1 x (omega arith) p
 
-    pub swept_moved : v < length ts → (ts' : List Bool) → Visited (moves_to s) body inside v ts ts' true → Swept s body inside v h (assigned ts') true
+  module _ (m : Monotone order.truths body) (v n j : ℕ) (ts : List Bool) (c : Bool) (w : Swept s body inside n h (assigned ts) c) where
+    pub swept_moved : v < length ts → (ts' : List Bool) → Visited (moves_to s) body inside v ts ts' true → Swept s body inside j h (assigned ts') true
     swept_moved l ts' (put, (is-in, (said, new))) =
-        subst (λ z. Swept s body inside v h (assigned z) true) (sym put)
+        subst (λ z. Swept s body inside j h (assigned z) true) (sym put)
         (record {
           outside = λ x p. other x (λ z. true≢false (sym is-in ∙ ap inside (sym z) ∙ p)) ∙ w.outside x p;
           moves = λ x. up x (ℕ_discrete x v);
@@ -186,8 +187,17 @@ swept_next s body inside h m n v ts ts' c r t en et l w z =
     go r (subst (λ x. Visited x body inside v ts ts' r) et z) (subst (λ (x : ℕ). Swept s body inside x h (assigned ts) c) en w)
   where
     go : (r : Bool) → Visited (moves_to s) body inside v ts ts' r → Swept s body inside (suc v) h (assigned ts) c → Swept s body inside v h (assigned ts') (r || c)
-    go true z w = swept_moved s body inside h m v ts c w l ts' z
-    go false z w = swept_still s body inside h m v ts c w ts' z
+    go true z w = swept_moved s body inside h m v (suc v) v ts c w l ts' z
+    go false z w = swept_still s body inside h v ts c w ts' z
+
+-- a visit of whichever variable, where nothing is said of bodies at rest
+pub swept_visit : (s : KeptSign) (body : (ℕ → Bool) → ℕ → Bool) (inside : ℕ → Bool) (h : ℕ → Bool) → Monotone order.truths body → (n v : ℕ) (ts ts' : List Bool) (c r t : Bool) →
+    t ≡ moves_to s → v < length ts → Swept s body inside n h (assigned ts) c → Visited t body inside v ts ts' r → Swept s body inside n h (assigned ts') (r || c)
+swept_visit s body inside h m n v ts ts' c r t et l w z = go r (subst (λ x. Visited x body inside v ts ts' r) et z)
+  where
+    go : (r : Bool) → Visited (moves_to s) body inside v ts ts' r → Swept s body inside n h (assigned ts') (r || c)
+    go true z = swept_moved s body inside h m v n n ts c w l ts' z
+    go false z = subst (λ u. Swept s body inside n h (assigned u) c) (sym z.0) w
 
 pub begun_is : (b : Block ℕ) (t : Bool) (h : ℕ → Bool) (i : ℕ) (us ts : List Bool) → us ≡ ts →
     ((x : ℕ) → x < i → assigned ts x ≡ put b (λ _. t) h x) × ((x : ℕ) → i ≤ x → assigned ts x ≡ h x) →
@@ -213,6 +223,20 @@ module _ (s : KeptSign) (body : (ℕ → Bool) → ℕ → Bool) (inside : ℕ �
       between : (s : KeptSign) (a b d : Bool) → Le (moving s) a b → Le (moving s) b d → a ≡ d → b ≡ d
       between s a b d p q e = antisym (moving s) q (subst (λ y. Le (moving s) y b) e p)
 
+  pub swept_also : (j : ℕ) (r : Bool) → c ≡ true → Swept s body inside j f g r → Swept s body inside n h g true
+  swept_also j r e v =
+      let z = w.changes e in
+      record {
+        outside = λ x p. v.outside x p ∙ w.outside x p;
+        moves = λ x. both_move x v.moves;
+        sound = λ u p q. v.sound u (w.sound u p q) q;
+        rests = λ e. absurd (true≢false e);
+        changes = λ _. (z.0, (z.1.0, λ e. z.1.1 (first s (h z.0) (f z.0) (g z.0) (w.moves z.0) (v.moves z.0) e)));
+      }
+    where
+      first : (s : KeptSign) (a b d : Bool) → Le (moving s) a b → Le (moving s) b d → a ≡ d → a ≡ b
+      first s a b d p q e = antisym (moving s) p (subst (λ y. Le (moving s) b y) (sym e) q)
+
   pub swept_done : Swept s body inside 0 f g false → Swept s body inside 0 h g c
   swept_done v =
       let z = v.rests refl in
@@ -225,9 +249,15 @@ module _ (s : KeptSign) (body : (ℕ → Bool) → ℕ → Bool) (inside : ℕ �
         changes = w.changes;
       })
 
-pub swept_less : (s : KeptSign) (vs : List Variable) (bs : List ℕ) (k : ℕ) (body : (ℕ → Bool) → ℕ → Bool) (f g : ℕ → Bool) →
-    Swept s body (λ j. in_block (at vs j) bs k) 0 f g true → total (dual (moving s)) (members vs bs k) g < total (dual (moving s)) (members vs bs k) f
-swept_less s vs bs k body f g w =
+pub swept_less : (s : KeptSign) (vs : List Variable) (bs : List ℕ) (k n : ℕ) (body : (ℕ → Bool) → ℕ → Bool) (f g : ℕ → Bool) →
+    Swept s body (λ j. in_block (at vs j) bs k) n f g true → total (dual (moving s)) (members vs bs k) g < total (dual (moving s)) (members vs bs k) f
+swept_less s vs bs k n body f g w =
     let c = w.changes refl in
     let l : c.0 < length vs = in_below vs bs k c.0 c.1.0 in
     lighter (moving s) (λ j. in_block (at vs j) bs k) (up_to (length vs)) f f g (λ x q. refl) w.moves c.0 c.1.0 (from_mem 0 (length vs) c.0 (omega arith) (omega arith)) c.1.1
+
+-- a sweep whose answer is not asked makes no truth move back
+pub swept_most : (s : KeptSign) (vs : List Variable) (bs : List ℕ) (k n : ℕ) (body : (ℕ → Bool) → ℕ → Bool) (f g : ℕ → Bool) (r : Bool) →
+    Swept s body (λ j. in_block (at vs j) bs k) n f g r → total (dual (moving s)) (members vs bs k) g ≤ total (dual (moving s)) (members vs bs k) f
+swept_most s vs bs k n body f g true w = let l = swept_less s vs bs k n body f g w in omega arith
+swept_most s vs bs k n body f g false w = let e = ap (total (dual (moving s)) (members vs bs k)) (w.rests refl).0 in omega arith

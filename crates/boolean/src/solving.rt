@@ -100,6 +100,21 @@ impl<'a> Solver<'a> {
         changed
     }
 
+    // Visits the variables of the block, the first one first; tells whether one moved.
+    fn sweep_up(&self, k: usize, truths: &mut [bool; VARIABLES]) -> bool
+        requires few { k < length (listed self.now.blocks.now.signs) }
+        ensures { Swept (sign self.now k) (body self.now) (inside self.now k) (length (listed self.now.variables.now.entries)) (assigned truths.old) (assigned truths.new) result }
+    {
+        let to = moves_to(self.blocks.signs.as_slice()[k]);
+        let mut changed = false;
+        for (v, entry) in self.variables.entries.as_slice().iter().enumerate() {
+            if self.visit(k, v, entry, to, truths) {
+                changed = true;
+            }
+        }
+        changed
+    }
+
     // Sweeps until nothing moves, the other blocks being held; tells whether a truth moved.
     fn settle_block(&self, k: usize, truths: &mut [bool; VARIABLES]) -> bool
         requires few { k < length (listed self.now.blocks.now.signs) }
@@ -108,6 +123,8 @@ impl<'a> Solver<'a> {
         let mut changed = false;
         while self.sweep(k, truths) {
             changed = true;
+            // The other way too, so that a chain is followed at once in whichever direction it runs.
+            self.sweep_up(k, truths);
         }
         changed
     }
