@@ -50,9 +50,7 @@ for file in files():
     text = code(raw)
     inside = functions(file)
 
-    def put(letter, at, words):
-        fn = next((f for f in inside if f.body and f.start <= at <= f.end), None)
-        r.put(letter, file, line_of(text, at), (said(fn) + ": " if fn else "") + words)
+    put = r.putter(file, text, inside)
 
     for fn in inside:
         for x in fn.params:

@@ -38,7 +38,7 @@ for file in files():
     text = code(open(file).read())
     fns = functions(file)
     for m in re.finditer(r"\b(while|loop|for)\b", text):
-        fn = next((f for f in fns if f.body and f.start <= m.start() <= f.end), None)
+        fn = function_at(fns, m.start())
         if not fn:
             continue
         depth, i = 0, m.end()

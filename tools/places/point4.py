@@ -33,9 +33,7 @@ for file in files():
     text = code(raw)
     fns = functions(file)
 
-    def put(letter, at, words):
-        fn = next((f for f in fns if f.body and f.start <= at <= f.end), None)
-        r.put(letter, file, line_of(text, at), (said(fn) + ": " if fn else "") + words)
+    put = r.putter(file, text, fns)
 
     for m in re.finditer(r"\bimpl(?:<[^>]*>)? (PartialEq|Eq|PartialOrd|Ord|Clone|Copy|Debug|Default|Hash) for (\w+)", text):
         put("a", m.start(), m.group())
@@ -80,7 +78,7 @@ for file in files():
         fields = split_top(text[m.end():close(text, m.end() - 1)])
         if len(fields) < 2:
             continue
-        fn = next((f for f in fns if f.body and f.start <= m.start() <= f.end), None)
+        fn = function_at(fns, m.start())
         if m.group(1) in ("Fault", "View"):
             continue
         alias = {}

@@ -56,9 +56,7 @@ for file in files():
     text = code(open(file).read())
     fns = functions(file)
 
-    def put(letter, at, words):
-        fn = next((f for f in fns if f.body and f.start <= at <= f.end), None)
-        r.put(letter, file, line_of(text, at), (said(fn) + ": " if fn else "") + words)
+    put = r.putter(file, text, fns)
 
     for f in fns:
         slices = [p for p in f.params if re.search(r": &(?:'\w+ )?(?:mut )?\[", p)]

@@ -21,7 +21,7 @@ for file in files():
     fns = functions(file)
 
     def at_fn(at):
-        return next((f for f in fns if f.body and f.start <= at <= f.end), None)
+        return function_at(fns, at)
 
     def put(letter, at, words):
         fn = at_fn(at)

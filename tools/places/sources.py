@@ -213,6 +213,10 @@ def said(fn):
     return (of + "::" if of else "") + fn.name
 
 
+def function_at(fns, at):
+    return next((f for f in fns if f.body and f.start <= at <= f.end), None)
+
+
 class Report:
     """Prints places kind by kind, with a count for each, and the count of all. A kind that begins with `-` is left out of it."""
 
@@ -224,6 +228,13 @@ class Report:
 
     def put(self, letter, file, line, words):
         self.add(self.named(letter), file, line, words)
+
+    def putter(self, file, text, fns):
+        """Puts a place of the file by its offset, with the function that it stands in."""
+        def put(letter, at, words):
+            fn = function_at(fns, at)
+            self.put(letter, file, line_of(text, at), (said(fn) + ": " if fn else "") + words)
+        return put
 
     def add(self, name, file, line, words):
         self.kinds.setdefault(name, []).append((file, line, re.sub(r"\s+", " ", words).strip()))
