@@ -26,6 +26,10 @@ abbrev pub term_places : Alg → ℕ → List ℕ → ℕ → Option (List ℕ �
 term_places a zero f p = Some ([], p)
 term_places a (suc n) f p = bind (term_end a f p) (λ q. bind (term_places a n f q) (λ x. Some (p ∷ x.0, x.1)))
 
+-- an occurrence's target, how many arguments it has, and the place of the first
+abbrev pub target_place : List Header → List ℕ → ℕ → Option (ℕ × ℕ × ℕ)
+target_place hs f p = bind (field_at 5 f p) (λ i. bind (at hs i.0) (λ h. Some (i.0, length h.sorts, i.1)))
+
 -- an occurrence's target, the places of its arguments, and the place behind it
 abbrev pub occurrence_places : Alg → List Header → List ℕ → ℕ → Option (ℕ × (List ℕ × ℕ))
 occurrence_places a hs f p = bind (field_at 5 f p) (λ i. bind (at hs i.0) (λ h. bind (term_places a (length h.sorts) f i.1) (λ x. Some (i.0, x))))
@@ -42,6 +46,11 @@ clause_end a hs f p = bind (counted a 3 f p) (λ n. occurrences_end a hs (suc n.
 abbrev pub in_row : {X : Type 0} → (ℕ → Option (X × ℕ)) → ℕ → ℕ → Option (List X × ℕ)
 in_row s zero p = Some ([], p)
 in_row s (suc n) p = bind (s p) (λ x. bind (in_row s n x.1) (λ r. Some (x.0 ∷ r.0, r.1)))
+
+-- of what is found with the place behind it, that place
+abbrev pub ended : {X : Type 0} → Option (X × ℕ) → Option ℕ
+ended None = None
+ended (Some x) = Some x.1
 
 -- an occurrence with the place behind it
 abbrev pub occurrence_next : Alg → List Header → List ℕ → ℕ → Option ((ℕ × (List ℕ × ℕ)) × ℕ)

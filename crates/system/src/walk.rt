@@ -9,7 +9,7 @@ ghost use Rattle.terms.specs.Shapes.{standing};
 ghost use Rattle.terms.specs.Known.{Alike};
 ghost use Rattle.rows.specs.Listed.{listed};
 ghost use Rattle.system.specs.Whole.{kept_headers};
-ghost use Rattle.system.specs.Walks.{term_places, counted, clause_end, arguments_of, BodyPlaces, ClausePlaces, OccurrencePlaces, BodyFound, ClauseFound, OccurrenceFound, EndFound, in_row, occurrence_next, occurrences_of, OccurrencesPlaces, OccurrencesFound, ClausesPlaces, ClausesFound};
+ghost use Rattle.system.specs.Walks.{term_places, counted, target_place, occurrences_end, clause_end, ended, arguments_of, BodyPlaces, ClausePlaces, OccurrencePlaces, BodyFound, ClauseFound, OccurrenceFound, EndFound, in_row, occurrence_next, occurrences_of, OccurrencesPlaces, OccurrencesFound, ClausesPlaces, ClausesFound};
 
 use crate::DEPTH;
 use crate::outline::Outline;
@@ -101,10 +101,21 @@ impl<'a, G: Algebra> Accepted<'a, G> {
         Some((places, next))
     }
 
-    /// The occurrence at the place.
-    pub fn open_occurrence(&self, at: usize) -> Option<OccurrenceAt>
-        ensures places { OccurrencePlaces (G.meaning self.now.alg.now) (kept_headers self.now.outline.now) self.now.file.now at result }
-        ensures found { OccurrenceFound (G.meaning self.now.alg.now) (kept_headers self.now.outline.now) self.now.file.now at result }
+    // The place behind so many terms from the place on.
+    fn end_of_terms(&self, terms: usize, at: usize) -> Option<usize>
+        ensures { result ≡ ended (term_places (G.meaning self.now.alg.now) terms self.now.file.now at) }
+    {
+        let mut next = at;
+        for _ in 0..terms {
+            next = end_of_term(self.alg, self.view(next), DEPTH)?;
+        }
+        Some(next)
+    }
+
+    // The target of the occurrence at the place, how many arguments it has, and the place of the first.
+    fn target_at(&self, at: usize) -> Option<(u8, usize, usize)>
+        ensures reads { result ≡ target_place (kept_headers self.now.outline.now) self.now.file.now at }
+        ensures small { IfSome result (λ x. (x.0 < 31) × (x.1 ≤ 15)) }
     {
         let mut reader = BitReader {
             bytes: self.file,
@@ -112,13 +123,40 @@ impl<'a, G: Algebra> Accepted<'a, G> {
         };
         let target = reader.next(5)?;
         let equation = self.outline.equations.as_slice().get(target as usize)?;
-        let sorts = equation.header.sorts.as_slice();
-        let (arguments, end) = self.arguments_at(sorts.len(), reader.at)?;
+        Some((target as u8, equation.header.sorts.len(), reader.at))
+    }
+
+    /// The occurrence at the place.
+    pub fn open_occurrence(&self, at: usize) -> Option<OccurrenceAt>
+        ensures places { OccurrencePlaces (G.meaning self.now.alg.now) (kept_headers self.now.outline.now) self.now.file.now at result }
+        ensures found { OccurrenceFound (G.meaning self.now.alg.now) (kept_headers self.now.outline.now) self.now.file.now at result }
+    {
+        let (target, count, first) = self.target_at(at)?;
+        let (arguments, end) = self.arguments_at(count, first)?;
         Some(OccurrenceAt {
-            target: target as u8,
+            target,
             arguments,
             next: end,
         })
+    }
+
+    // The place behind the occurrence at the place.
+    fn end_of_occurrence(&self, at: usize) -> Option<usize>
+        ensures { result ≡ ended (occurrence_next (G.meaning self.now.alg.now) (kept_headers self.now.outline.now) self.now.file.now at) }
+    {
+        let (_, count, first) = self.target_at(at)?;
+        self.end_of_terms(count, first)
+    }
+
+    // The place behind so many occurrences from the place on.
+    fn end_of_occurrences(&self, occurrences: u8, at: usize) -> Option<usize>
+        ensures { result ≡ occurrences_end (G.meaning self.now.alg.now) (kept_headers self.now.outline.now) occurrences self.now.file.now at }
+    {
+        let mut next = at;
+        for _ in 0..occurrences {
+            next = self.end_of_occurrence(next)?;
+        }
+        Some(next)
     }
 
     // The occurrences of the clause, and the place behind the last.
@@ -166,8 +204,7 @@ impl<'a, G: Algebra> Accepted<'a, G> {
         ensures found { EndFound (G.meaning self.now.alg.now) (kept_headers self.now.outline.now) self.now.file.now at result }
     {
         let clause = self.open_clause(at)?;
-        let (_, end) = self.occurrences_at(&clause)?;
-        Some(end)
+        self.end_of_occurrences(clause.count, clause.next)
     }
 
     /// The clauses of the body, in their order.
@@ -184,8 +221,7 @@ impl<'a, G: Algebra> Accepted<'a, G> {
         for _ in 0..body.count {
             let clause = self.open_clause(next)?;
             clauses.push(clause).unwrap();
-            let (_, end) = self.occurrences_at(&clause)?;
-            next = end;
+            next = self.end_of_occurrences(clause.count, clause.next)?;
         }
         Some(clauses)
     }

@@ -25,16 +25,16 @@ returns-in_err-clause g c =
     let p = no_clauses a hs f c.args.body.now c.from_residual.result c.from_residual.ensures (l.invariant.1 ∙ n) in
     record { places = p; found = clauses_found a hs f c.args.body.now c.from_residual.result p }
 
-pub returns-in_err-end : goal.returns-in_err-end
-returns-in_err-end g c =
+pub returns-in_err-next : goal.returns-in_err-next
+returns-in_err-next g c =
     let a = g.G.Algebra.meaning c.args.self.now.alg.now in
     let f = c.args.self.now.file.now in
     let hs = kept_headers c.args.self.now.outline.now in
     let l = c.loop in
     let k = c.in_ok-clause.clause in
-    let n = row_none (clause_next a hs f) (map clause_told (listed l.clauses)) c.args.body.now.count l.counter l.next (omega arith) (clause_next_of a hs f l.next k None c.in_ok-clause.ensures.places c.in_err-end.ensures) in
-    let p = no_clauses a hs f c.args.body.now c.from_residual-in_err-end.result c.from_residual-in_err-end.ensures (l.invariant.1 ∙ n) in
-    record { places = p; found = clauses_found a hs f c.args.body.now c.from_residual-in_err-end.result p }
+    let n = row_none (clause_next a hs f) (map clause_told (listed l.clauses)) c.args.body.now.count l.counter l.next (omega arith) (clause_next_of a hs f l.next k None c.in_ok-clause.ensures.places c.in_err-next.ensures) in
+    let p = no_clauses a hs f c.args.body.now c.from_residual-in_err-next.result c.from_residual-in_err-next.ensures (l.invariant.1 ∙ n) in
+    record { places = p; found = clauses_found a hs f c.args.body.now c.from_residual-in_err-next.result p }
 
 pub loop-preserved : goal.loop-preserved
 loop-preserved g c =
@@ -46,7 +46,7 @@ loop-preserved g c =
     let k = c.in_ok-clause.clause in
     let added = c.push.ensures.added (omega (arith, l.invariant.0, c.args.body.now.few)) in (
       ap length added ∙ length-append xs (k ∷ []) ∙ ap (λ k. k + 1) l.invariant.0,
-      l.invariant.1 ∙ row_next (clause_next a hs f) (map clause_told xs) (map clause_told (listed c.push.new.self)) c.args.body.now.count l.counter l.next (clause_told k) c.in_ok-end.end (omega arith) (clause_next_of a hs f l.next k (Some (c.in_ok-end.field-0-0, c.in_ok-end.end)) c.in_ok-clause.ensures.places c.in_ok-end.ensures) (ap (map clause_told) added ∙ map-append clause_told xs (k ∷ [])),
+      l.invariant.1 ∙ row_next (clause_next a hs f) (map clause_told xs) (map clause_told (listed c.push.new.self)) c.args.body.now.count l.counter l.next (clause_told k) c.in_ok-next.next (omega arith) (clause_next_of a hs f l.next k (Some c.in_ok-next.next) c.in_ok-clause.ensures.places c.in_ok-next.ensures) (ap (map clause_told) added ∙ map-append clause_told xs (k ∷ [])),
     )
 
 pub returns : goal.returns
