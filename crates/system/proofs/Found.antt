@@ -11,10 +11,11 @@ use Rattle.rows.specs.declared.row.Row.{Row}
 use Rattle.rows.specs.Listed.{listed}
 use Rattle.terms.specs.Shapes.{field_at, shape, what, behind, standing}
 use Rattle.terms.proofs.Laws.{followed, term_stands, field_is}
+use Rattle.system.proofs.ByPlace.{repeated_length}
 use Rattle.system.specs.declared.places.BodyAt.{BodyAt}
 use Rattle.system.specs.declared.places.ClauseAt.{ClauseAt}
 use Rattle.system.specs.declared.places.OccurrenceAt.{OccurrenceAt}
-use Rattle.system.specs.Walks.{term_end, counted, term_places, target_place, occurrence_places, occurrences_end, clause_end, BodyPlaces, ClausePlaces, OccurrencePlaces, BodyFound, ClauseFound, OccurrenceFound, EndFound, in_row, ended, occurrence_next, clause_next, occurrence_told, clause_told, Found, Pairs, OccurrenceOf, ClauseOf, occurrences_of, OccurrencesPlaces, OccurrencesFound, ClausesPlaces, ClausesFound}
+use Rattle.system.specs.Walks.{term_end, counted, term_places, target_place, occurrence_places, occurrences_end, clause_end, BodyPlaces, ClausePlaces, OccurrencePlaces, BodyFound, ClauseFound, OccurrenceFound, EndFound, in_row, ended, occurrence_next, clause_next, occurrence_told, clause_told, Found, Pairs, OccurrenceOf, ClauseOf, occurrences_of, RowPlaces, RowFound, OccurrencesPlaces, OccurrencesFound, ClausesPlaces, ClausesFound}
 
 abbrev stood : {A : Type 0} → A → ℕ → Option (A × ℕ)
 stood x q = Some (x, q)
@@ -44,15 +45,6 @@ same_step x y p q e =
     let i : x ≡ y = cc in
     let j : p ≡ q = cc in
     ap (λ z. stood z p) i ∙ ap (λ z. stood y z) j
-
-repeated_length : {B : Type 0} (r : Reader B) (f : List ℕ) (n p : ℕ) (xs : List B) (q : ℕ) → repeated r n f p ≡ next xs q → length xs ≡ n
-repeated_length r f zero p xs q e = let i : xs ≡ [] = cc in ap length i
-repeated_length {B} r f (suc n) p xs q e =
-    let d = followed (r f p) (λ y t. follow (repeated r n f t) (λ ys u. next (y ∷ ys) u)) xs q e in
-    let b = followed (repeated r n f d.1.0) (λ ys u. next (d.0 ∷ ys) u) xs q d.1.1.1 in
-    let h : next (d.0 ∷ b.0) b.1.0 ≡ next xs q = b.1.1.1 in
-    let i : xs ≡ d.0 ∷ b.0 = cc in
-    ap length i ∙ ap suc (repeated_length r f n d.1.0 b.0 b.1.0 b.1.1.0)
 
 module _ (a : Alg) (f : List ℕ) (short : length f ≤ 65536) where
   -- a term that is read stands
@@ -486,8 +478,12 @@ module _ (a : Alg) (hs : List Header) (f : List ℕ) where
   occurrences_told c None e = ap (option_map (λ x. x.0)) e
   occurrences_told c (Some x) e = ap (option_map (λ x. x.0)) e
 
-  pub occurrences_found : (k : ClauseAt) (r : Option (Row OccurrenceAt 8)) → OccurrencesPlaces a hs f k r → OccurrencesFound a hs f k r
-  occurrences_found k r places c os q short e = found r (row_found (occurrence_next a hs f) (read_occurrence a hs c) f IsFound one k.count k.next os q e) places
+  -- the places of occurrences that are read one by one
+  read_places : (n p : ℕ) (c : Scope) (os : List Occurrence) (q : ℕ) → length f ≤ 65536 → repeated (read_occurrence a hs c) n f p ≡ next os q →
+      (ts : List (ℕ × (List ℕ × ℕ))) × ((in_row (occurrence_next a hs f) n p ≡ Some (ts, q)) × ((xs : List OccurrenceAt) → map occurrence_told xs ≡ ts → Pairs (λ x o. (u : ℕ) × OccurrenceOf a f o u x) xs os))
+  read_places n p c os q short e =
+      let d = row_found (occurrence_next a hs f) (read_occurrence a hs c) f IsFound one n p os q e in
+      (d.0, (d.1.0, λ xs i. told_pairs occurrence_told IsFound (λ x o. (u : ℕ) × OccurrenceOf a f o u x) (λ x o h. h x refl) xs os (subst (λ ts. Pairs IsFound ts os) (sym i) d.1.1)))
     where
       IsFound : ℕ × (List ℕ × ℕ) → Occurrence → Type 0
       IsFound t o = (x : OccurrenceAt) → occurrence_told x ≡ t → (u : ℕ) × OccurrenceOf a f o u x
@@ -502,13 +498,28 @@ module _ (a : Alg) (hs : List Header) (f : List ℕ) where
             ),
           )
 
-      found : (r : Option (Row OccurrenceAt 8)) → (ts : List (ℕ × (List ℕ × ℕ))) × ((in_row (occurrence_next a hs f) k.count k.next ≡ Some (ts, q)) × Pairs IsFound ts os) → OccurrencesPlaces a hs f k r →
+  pub row_filled : (k : ClauseAt) (xs : Row OccurrenceAt 8) (r : Option ℕ) → RowPlaces a hs f k xs r → RowFound a hs f k xs r
+  row_filled k xs r places c os q short e = go r places (read_places k.count k.next c os q short e)
+    where
+      go : (r : Option ℕ) → RowPlaces a hs f k xs r →
+          (ts : List (ℕ × (List ℕ × ℕ))) × ((in_row (occurrence_next a hs f) k.count k.next ≡ Some (ts, q)) × ((xs : List OccurrenceAt) → map occurrence_told xs ≡ ts → Pairs (λ x o. (u : ℕ) × OccurrenceOf a f o u x) xs os)) →
+          (r ≡ Some q) × Pairs (λ x o. (u : ℕ) × OccurrenceOf a f o u x) (listed xs) os
+      go None places d = let z : ◌≡◌ {A = Option (List (ℕ × (List ℕ × ℕ)) × ℕ)} None (Some (d.0, q)) = places ∙ d.1.0 in absurd cc
+      go (Some v) places d =
+          let z : ◌≡◌ {A = Option (List (ℕ × (List ℕ × ℕ)) × ℕ)} (Some (map occurrence_told (listed xs), v)) (Some (d.0, q)) = places ∙ d.1.0 in
+          let y : ◌≡◌ {A = List (ℕ × (List ℕ × ℕ)) × ℕ} (map occurrence_told (listed xs), v) (d.0, q) = cc in
+          (ap (λ (y : List (ℕ × (List ℕ × ℕ)) × ℕ). Some y.1) y, d.1.1 (listed xs) (ap (λ (y : List (ℕ × (List ℕ × ℕ)) × ℕ). y.0) y))
+
+  pub occurrences_found : (k : ClauseAt) (r : Option (Row OccurrenceAt 8)) → OccurrencesPlaces a hs f k r → OccurrencesFound a hs f k r
+  occurrences_found k r places c os q short e = go r places (read_places k.count k.next c os q short e)
+    where
+      go : (r : Option (Row OccurrenceAt 8)) → OccurrencesPlaces a hs f k r →
+          (ts : List (ℕ × (List ℕ × ℕ))) × ((in_row (occurrence_next a hs f) k.count k.next ≡ Some (ts, q)) × ((xs : List OccurrenceAt) → map occurrence_told xs ≡ ts → Pairs (λ x o. (u : ℕ) × OccurrenceOf a f o u x) xs os)) →
           Found r (λ xs. Pairs (λ x o. (u : ℕ) × OccurrenceOf a f o u x) (listed xs) os)
-      found None d places = let z : ◌≡◌ {A = Option (List (ℕ × (List ℕ × ℕ)))} None (Some d.0) = places ∙ ap (option_map (λ x. x.0)) d.1.0 in absurd cc
-      found (Some xs) d places =
+      go None places d = let z : ◌≡◌ {A = Option (List (ℕ × (List ℕ × ℕ)))} None (Some d.0) = places ∙ ap (option_map (λ x. x.0)) d.1.0 in absurd cc
+      go (Some xs) places d =
           let z : ◌≡◌ {A = Option (List (ℕ × (List ℕ × ℕ)))} (Some (map occurrence_told (listed xs))) (Some d.0) = places ∙ ap (option_map (λ x. x.0)) d.1.0 in
-          let i : map occurrence_told (listed xs) ≡ d.0 = cc in
-          told_pairs occurrence_told IsFound (λ x o. (u : ℕ) × OccurrenceOf a f o u x) (λ x o h. h x refl) (listed xs) os (subst (λ ts. Pairs IsFound ts os) (sym i) d.1.1)
+          d.1.1 (listed xs) cc
 
   pub no_clauses : (b : BodyAt) (r : Option (Row ClauseAt 15)) → r ≡ None → in_row (clause_next a hs f) b.count b.next ≡ None → ClausesPlaces a hs f b r
   no_clauses b r e n = ap (option_map (λ cs. map clause_told (listed cs))) e ∙ ap (option_map {T = List (ℕ × (ℕ × ℕ)) × ℕ} (λ x. x.0)) (sym n)

@@ -60,6 +60,11 @@ occurrence_next a hs f p = bind (occurrence_places a hs f p) (λ x. Some (x, x.1
 abbrev pub clause_next : Alg → List Header → List ℕ → ℕ → Option ((ℕ × (ℕ × ℕ)) × ℕ)
 clause_next a hs f p = bind (counted a 3 f p) (λ n. bind (occurrences_end a hs (suc n.0) f n.1) (λ q. Some ((p, (suc n.0, n.1)), q)))
 
+-- what was filled, with the place behind what was read into it, where one is told
+abbrev pub filled : {X : Type 0} → X → Option ℕ → Option (X × ℕ)
+filled x None = None
+filled x (Some q) = Some (x, q)
+
 -- the answers
 abbrev pub arguments_of : Option (Row ℕ 15 × ℕ) → Option (List ℕ × ℕ)
 arguments_of None = None
@@ -74,6 +79,10 @@ clause_told c = (c.guard, (c.count, c.next))
 abbrev pub occurrences_of : Option (Row OccurrenceAt 8 × ℕ) → Option (List (ℕ × (List ℕ × ℕ)) × ℕ)
 occurrences_of None = None
 occurrences_of (Some x) = Some (map occurrence_told (listed x.0), x.1)
+
+-- the occurrences of an open clause in a row, with the place behind them
+abbrev pub RowPlaces : Alg → List Header → List ℕ → ClauseAt → Row OccurrenceAt 8 → Option ℕ → Type 0
+RowPlaces a hs f c os r = occurrences_of (filled os r) ≡ in_row (occurrence_next a hs f) c.count c.next
 
 -- the occurrences of an open clause, and the clauses of an open body
 abbrev pub OccurrencesPlaces : Alg → List Header → List ℕ → ClauseAt → Option (Row OccurrenceAt 8) → Type 0
@@ -142,6 +151,10 @@ Pairs P (x ∷ xs) (y ∷ ys) = P x y × Pairs P xs ys
 abbrev pub OccurrencesFound : Alg → List Header → List ℕ → ClauseAt → Option (Row OccurrenceAt 8) → Type 0
 OccurrencesFound a hs f k r = (c : Scope) (os : List Occurrence) (q : ℕ) → length f ≤ 65536 → repeated (read_occurrence a hs c) k.count f k.next ≡ next os q →
     Found r (λ xs. Pairs (λ x o. (u : ℕ) × OccurrenceOf a f o u x) (listed xs) os)
+
+abbrev pub RowFound : Alg → List Header → List ℕ → ClauseAt → Row OccurrenceAt 8 → Option ℕ → Type 0
+RowFound a hs f k xs r = (c : Scope) (os : List Occurrence) (q : ℕ) → length f ≤ 65536 → repeated (read_occurrence a hs c) k.count f k.next ≡ next os q →
+    (r ≡ Some q) × Pairs (λ x o. (u : ℕ) × OccurrenceOf a f o u x) (listed xs) os
 
 abbrev pub ClausesFound : Alg → List Header → List ℕ → BodyAt → Option (Row ClauseAt 15) → Type 0
 ClausesFound a hs f b r = (c : Scope) (ks : List Clause) (q : ℕ) → length f ≤ 65536 → repeated (read_clause a hs c) b.count f b.next ≡ next ks q →

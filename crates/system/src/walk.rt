@@ -9,7 +9,7 @@ ghost use Rattle.terms.specs.Shapes.{standing};
 ghost use Rattle.terms.specs.Known.{Alike};
 ghost use Rattle.rows.specs.Listed.{listed};
 ghost use Rattle.system.specs.Whole.{kept_headers};
-ghost use Rattle.system.specs.Walks.{term_places, counted, target_place, occurrences_end, clause_end, ended, arguments_of, BodyPlaces, ClausePlaces, OccurrencePlaces, BodyFound, ClauseFound, OccurrenceFound, EndFound, in_row, occurrence_next, occurrences_of, OccurrencesPlaces, OccurrencesFound, ClausesPlaces, ClausesFound};
+ghost use Rattle.system.specs.Walks.{term_places, counted, target_place, occurrences_end, clause_end, ended, filled, arguments_of, BodyPlaces, ClausePlaces, OccurrencePlaces, BodyFound, ClauseFound, OccurrenceFound, EndFound, occurrence_next, OccurrencesPlaces, OccurrencesFound, RowPlaces, RowFound, ClausesPlaces, ClausesFound};
 
 use crate::DEPTH;
 use crate::outline::Outline;
@@ -87,23 +87,25 @@ impl<'a, G: Algebra> Accepted<'a, G> {
         })
     }
 
-    // The places of so many arguments from the place on, and the place behind them.
-    fn arguments_at(&self, count: usize, at: usize) -> Option<(Row<usize, 15>, usize)>
+    // Fills the row with the places of so many arguments from the place on, and tells the place behind them.
+    fn read_arguments(&self, count: usize, at: usize, places: &mut Row<usize, 15>) -> Option<usize>
         requires { count ≤ 15 }
-        ensures { arguments_of result ≡ term_places (G.meaning self.now.alg.now) count self.now.file.now at }
+        ensures { arguments_of (filled places.new result) ≡
+            term_places (G.meaning self.now.alg.now) count self.now.file.now at }
     {
-        let mut places = Row::new(0);
+        places.clear();
         let mut next = at;
         for _ in 0..count {
             places.push(next).unwrap();
             next = end_of_term(self.alg, self.view(next), DEPTH)?;
         }
-        Some((places, next))
+        Some(next)
     }
 
     // The place behind so many terms from the place on.
     fn end_of_terms(&self, terms: usize, at: usize) -> Option<usize>
-        ensures { result ≡ ended (term_places (G.meaning self.now.alg.now) terms self.now.file.now at) }
+        ensures { result ≡
+            ended (term_places (G.meaning self.now.alg.now) terms self.now.file.now at) }
     {
         let mut next = at;
         for _ in 0..terms {
@@ -132,17 +134,20 @@ impl<'a, G: Algebra> Accepted<'a, G> {
         ensures found { OccurrenceFound (G.meaning self.now.alg.now) (kept_headers self.now.outline.now) self.now.file.now at result }
     {
         let (target, count, first) = self.target_at(at)?;
-        let (arguments, end) = self.arguments_at(count, first)?;
-        Some(OccurrenceAt {
+        let mut occurrence = OccurrenceAt {
             target,
-            arguments,
-            next: end,
-        })
+            arguments: Row::new(0),
+            next: first,
+        };
+        let end = self.read_arguments(count, first, &mut occurrence.arguments)?;
+        occurrence.next = end;
+        Some(occurrence)
     }
 
     // The place behind the occurrence at the place.
     fn end_of_occurrence(&self, at: usize) -> Option<usize>
-        ensures { result ≡ ended (occurrence_next (G.meaning self.now.alg.now) (kept_headers self.now.outline.now) self.now.file.now at) }
+        ensures { result ≡ ended (occurrence_next (G.meaning self.now.alg.now)
+            (kept_headers self.now.outline.now) self.now.file.now at) }
     {
         let (_, count, first) = self.target_at(at)?;
         self.end_of_terms(count, first)
@@ -150,7 +155,8 @@ impl<'a, G: Algebra> Accepted<'a, G> {
 
     // The place behind so many occurrences from the place on.
     fn end_of_occurrences(&self, occurrences: u8, at: usize) -> Option<usize>
-        ensures { result ≡ occurrences_end (G.meaning self.now.alg.now) (kept_headers self.now.outline.now) occurrences self.now.file.now at }
+        ensures { result ≡ occurrences_end (G.meaning self.now.alg.now)
+            (kept_headers self.now.outline.now) occurrences self.now.file.now at }
     {
         let mut next = at;
         for _ in 0..occurrences {
@@ -159,22 +165,27 @@ impl<'a, G: Algebra> Accepted<'a, G> {
         Some(next)
     }
 
-    // The occurrences of the clause, and the place behind the last.
-    fn occurrences_at(&self, clause: &ClauseAt) -> Option<(Row<OccurrenceAt, 8>, usize)>
-        ensures { occurrences_of result ≡ in_row (occurrence_next (G.meaning self.now.alg.now) (kept_headers self.now.outline.now) self.now.file.now) clause.now.count clause.now.next }
+    /// Fills the row with the occurrences of the clause, in their order, whatever it held before, and tells the place behind them; none where one is missing, and the row may then hold anything.
+    ///
+    /// So who goes through many clauses needs one row for all of them, and comes from a clause to the next.
+    pub fn read_occurrences(
+        &self,
+        clause: &ClauseAt,
+        occurrences: &mut Row<OccurrenceAt, 8>,
+    ) -> Option<usize>
+        ensures places { RowPlaces (G.meaning self.now.alg.now) (kept_headers self.now.outline.now)
+            self.now.file.now clause.now occurrences.new result }
+        ensures found { RowFound (G.meaning self.now.alg.now) (kept_headers self.now.outline.now)
+            self.now.file.now clause.now occurrences.new result }
     {
-        let mut occurrences = Row::new(OccurrenceAt {
-            target: 0,
-            arguments: Row::new(0),
-            next: 0,
-        });
+        occurrences.clear();
         let mut next = clause.next;
         for _ in 0..clause.count {
             let occurrence = self.open_occurrence(next)?;
             occurrences.push(occurrence).unwrap();
             next = occurrence.next;
         }
-        Some((occurrences, next))
+        Some(next)
     }
 
     /// The occurrences of the clause, in their order.
@@ -182,7 +193,12 @@ impl<'a, G: Algebra> Accepted<'a, G> {
         ensures places { OccurrencesPlaces (G.meaning self.now.alg.now) (kept_headers self.now.outline.now) self.now.file.now clause.now result }
         ensures found { OccurrencesFound (G.meaning self.now.alg.now) (kept_headers self.now.outline.now) self.now.file.now clause.now result }
     {
-        let (occurrences, _) = self.occurrences_at(clause)?;
+        let mut occurrences = Row::new(OccurrenceAt {
+            target: 0,
+            arguments: Row::new(0),
+            next: 0,
+        });
+        self.read_occurrences(clause, &mut occurrences)?;
         Some(occurrences)
     }
 

@@ -18,17 +18,17 @@ returns-in_err-target g c =
       found = subst (λ (r : Option OccurrenceAt). OccurrenceFound a hs f t r) (sym c.from_residual.ensures) (occurrence_found a f t hs None p);
     }
 
-pub returns-in_err-arguments : goal.returns-in_err-arguments
-returns-in_err-arguments g c =
+pub returns-in_err-end : goal.returns-in_err-end
+returns-in_err-end g c =
     let a = g.G.Algebra.meaning c.args.self.now.alg.now in
     let f = c.args.self.now.file.now in
     let hs = kept_headers c.args.self.now.outline.now in
     let t = c.args.at in
     let o = c.in_ok-target in
-    let p = occurrence_with a f hs t o.target o.count o.first o.ensures.reads None c.in_err-arguments.ensures in
+    let p = occurrence_with a f hs t o.target o.count o.first o.ensures.reads None c.in_err-end.ensures in
     record {
-      places = subst (λ (r : Option OccurrenceAt). OccurrencePlaces a hs f t r) (sym c.from_residual-in_err-arguments.ensures) p;
-      found = subst (λ (r : Option OccurrenceAt). OccurrenceFound a hs f t r) (sym c.from_residual-in_err-arguments.ensures) (occurrence_found a f t hs None p);
+      places = subst (λ (r : Option OccurrenceAt). OccurrencePlaces a hs f t r) (sym c.from_residual-in_err-end.ensures) p;
+      found = subst (λ (r : Option OccurrenceAt). OccurrenceFound a hs f t r) (sym c.from_residual-in_err-end.ensures) (occurrence_found a f t hs None p);
     }
 
 pub returns : goal.returns
@@ -38,6 +38,6 @@ returns g c =
     let hs = kept_headers c.args.self.now.outline.now in
     let t = c.args.at in
     let o = c.in_ok-target in
-    let r = c.in_ok-arguments in
-    let p = occurrence_with a f hs t o.target o.count o.first o.ensures.reads (Some (listed r.arguments, r.end)) r.ensures in
+    let r = c.in_ok-end in
+    let p = occurrence_with a f hs t o.target o.count o.first o.ensures.reads (Some (listed c.read_arguments.new.places, r.end)) r.ensures in
     record { places = p; found = occurrence_found a f t hs (Some _) p }
