@@ -20,6 +20,44 @@ use rows::Row;
 use terms::value::{Environment, known_value};
 use terms::view::{View, end_of_term};
 
+// The number behind the term at the place, and the place behind the number.
+fn counted<G: Algebra>(alg: &G, bytes: &[u8], width: u32, at: usize) -> Option<(u32, usize)>
+    requires { width ≤ 32 }
+    ensures reads { result ≡ counted (G.meaning alg.now) width bytes.now at }
+    ensures small { IfSome result (λ x. x.0 < 2 ^ width) }
+{
+    let end = end_of_term(alg, View { bytes, at }, DEPTH)?;
+    let mut reader = BitReader { bytes, at: end };
+    let number = reader.next(width)?;
+    Some((number, reader.at))
+}
+
+/// The opening of the body at the place, which needs no outline; none where no term with a clause count behind it stands there.
+pub fn open_body<G: Algebra>(alg: &G, bytes: &[u8], at: usize) -> Option<BodyAt>
+    ensures places { BodyPlaces (G.meaning alg.now) bytes.now at result }
+    ensures found { BodyFound (G.meaning alg.now) bytes.now at result }
+{
+    let (count, next) = counted(alg, bytes, 4, at)?;
+    Some(BodyAt {
+        h: at,
+        count: count as u8,
+        next,
+    })
+}
+
+/// The opening of the clause at the place, which needs no outline; none where no term with an occurrence count behind it stands there.
+pub fn open_clause<G: Algebra>(alg: &G, bytes: &[u8], at: usize) -> Option<ClauseAt>
+    ensures places { ClausePlaces (G.meaning alg.now) bytes.now at result }
+    ensures found { ClauseFound (G.meaning alg.now) bytes.now at result }
+{
+    let (count, next) = counted(alg, bytes, 3, at)?;
+    Some(ClauseAt {
+        guard: at,
+        count: count as u8 + 1,
+        next,
+    })
+}
+
 /// An accepted file with its outline, over its algebra.
 #[derive_where(Clone, Copy)]
 pub struct Accepted<'a, G> {
@@ -46,32 +84,12 @@ impl<'a, G: Algebra> Accepted<'a, G> {
         known_value(self.alg, env, self.view(at), DEPTH)
     }
 
-    // The number behind the term at the place, and the place behind the number.
-    fn counted(&self, width: u32, at: usize) -> Option<(u32, usize)>
-        requires { width ≤ 32 }
-        ensures reads { result ≡ counted (G.meaning self.now.alg.now) width self.now.file.now at }
-        ensures small { IfSome result (λ x. x.0 < 2 ^ width) }
-    {
-        let end = end_of_term(self.alg, self.view(at), DEPTH)?;
-        let mut reader = BitReader {
-            bytes: self.file,
-            at: end,
-        };
-        let number = reader.next(width)?;
-        Some((number, reader.at))
-    }
-
     /// The opening of the body at the place.
     pub fn open_body(&self, at: usize) -> Option<BodyAt>
         ensures places { BodyPlaces (G.meaning self.now.alg.now) self.now.file.now at result }
         ensures found { BodyFound (G.meaning self.now.alg.now) self.now.file.now at result }
     {
-        let (count, next) = self.counted(4, at)?;
-        Some(BodyAt {
-            h: at,
-            count: count as u8,
-            next,
-        })
+        open_body(self.alg, self.file, at)
     }
 
     /// The opening of the clause at the place.
@@ -79,12 +97,7 @@ impl<'a, G: Algebra> Accepted<'a, G> {
         ensures places { ClausePlaces (G.meaning self.now.alg.now) self.now.file.now at result }
         ensures found { ClauseFound (G.meaning self.now.alg.now) self.now.file.now at result }
     {
-        let (count, next) = self.counted(3, at)?;
-        Some(ClauseAt {
-            guard: at,
-            count: count as u8 + 1,
-            next,
-        })
+        open_clause(self.alg, self.file, at)
     }
 
     // Fills the row with the places of so many arguments from the place on, and tells the place behind them.
