@@ -38,10 +38,14 @@ fn meant<G: Algebra>(
 ) -> Instance
     ensures { (o : Occurrence) (q : ℕ) (ps vs : List ℕ) → Bound ps vs env.now → OccurrenceOf (G.meaning accepted.now.alg.now) accepted.now.file.now o q occurrence.now → StandsFor result (occurrence_meant (G.meaning accepted.now.alg.now) ps vs o) }
 {
-    let values = accepted.argument_values(env, occurrence);
+    let mut values = [0; 15];
+    // By index: of what `iter_mut().zip(..)` has written a proof knows nothing afterwards.
+    for (i, at) in occurrence.arguments.as_slice().iter().enumerate() {
+        values[i] = accepted.known(env, *at).unwrap_or(0);
+    }
     Instance {
         equation: occurrence.target,
-        values: values.map(|value| value.unwrap_or(0)),
+        values,
     }
 }
 
