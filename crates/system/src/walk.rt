@@ -1,5 +1,6 @@
 //! Walking an accepted file: bodies, clauses and occurrences, with their terms as places.
 ghost use Rattle.std.specs.Prelude.{◌≡◌, ℕ, ◌^◌, ◌<◌, ◌≤◌, List, map, Option, length, IfSome};
+ghost use Rattle.std.specs.Option.{option_map};
 ghost use Rattle.definitions.specs.Lists.{bind};
 ghost use Rattle.definitions.specs.Systems.{fold};
 ghost use Rattle.definitions.specs.Reading.{next};
@@ -236,6 +237,25 @@ impl<'a, G: Algebra> Accepted<'a, G> {
         self.end_of_occurrences(clause.count, clause.next)
     }
 
+    /// Fills the row with the clauses of the body, in their order, whatever it held before; none where one is missing, and the row may then hold anything.
+    ///
+    /// So who goes through many bodies needs one row for all of them.
+    pub fn read_clauses(&self, body: &BodyAt, clauses: &mut Row<ClauseAt, 15>) -> Option<()>
+        ensures places { ClausesPlaces (G.meaning self.now.alg.now) (kept_headers self.now.outline.now)
+            self.now.file.now body.now (option_map (λ _. clauses.new) result) }
+        ensures found { ClausesFound (G.meaning self.now.alg.now) (kept_headers self.now.outline.now)
+            self.now.file.now body.now (option_map (λ _. clauses.new) result) }
+    {
+        clauses.clear();
+        let mut next = body.next;
+        for _ in 0..body.count {
+            let clause = self.open_clause(next)?;
+            clauses.push(clause).unwrap();
+            next = self.end_of_occurrences(clause.count, clause.next)?;
+        }
+        Some(())
+    }
+
     /// The clauses of the body, in their order.
     pub fn clauses(&self, body: &BodyAt) -> Option<Row<ClauseAt, 15>>
         ensures places { ClausesPlaces (G.meaning self.now.alg.now) (kept_headers self.now.outline.now) self.now.file.now body.now result }
@@ -246,12 +266,7 @@ impl<'a, G: Algebra> Accepted<'a, G> {
             count: 1,
             next: 0,
         });
-        let mut next = body.next;
-        for _ in 0..body.count {
-            let clause = self.open_clause(next)?;
-            clauses.push(clause).unwrap();
-            next = self.end_of_occurrences(clause.count, clause.next)?;
-        }
+        self.read_clauses(body, &mut clauses)?;
         Some(clauses)
     }
 }
