@@ -1,5 +1,5 @@
 //! C: a parameter that has one and the same value wherever its equation is reached gives way to that value.
-ghost use Rattle.std.specs.Prelude.{◌≡◌, ℕ, ◌<◌, ◌≤◌, List, [], ◌∷◌, map, length, Some};
+ghost use Rattle.std.specs.Prelude.{◌≡◌, ℕ, ◌<◌, ◌≤◌, List, [], ◌∷◌, map, length, Some, IfSome};
 ghost use Rattle.definitions.specs.Lists.{flat};
 ghost use Rattle.definitions.specs.Alg.{Alg};
 ghost use Rattle.definitions.specs.Systems.{Occurrence, Clause, Equation, System};
@@ -13,7 +13,7 @@ ghost use Rattle.system.specs.Whole.{kept_headers, Outlined};
 ghost use Rattle.passes.specs.declared.constants.Known.TheVariants.{Fresh};
 ghost use Rattle.passes.specs.Meanings.{c_rules};
 ghost use Rattle.passes.specs.Plans.{knowing, Planning};
-ghost use Rattle.passes.specs.Learned.{kept_at, ranks, put, occurrence_brings, Joins, Brings, Follows, NextPending, changing, Learnt, Learns, Least};
+ghost use Rattle.passes.specs.Learned.{kept_at, ranks, put, occurrence_brings, Joins, Brings, Follows, PendingFrom, NextPending, changing, Learnt, Learns, Least};
 
 use crate::Pass;
 use crate::plan::{Change, EquationChange, Missing, ParameterChange, Plan};
@@ -205,17 +205,29 @@ struct Pending {
     values: [Option<u8>; 15],
 }
 
-// The first equation that is still to be followed.
-fn next_pending(knowledge: &[Known; 31]) -> Option<Pending>
-    ensures { NextPending knowledge.now result }
+// The first equation from the number on that is still to be followed.
+fn pending_from(knowledge: &[Known; 31], from: usize) -> Option<Pending>
+    ensures within { IfSome result (λ x. x.number < 31) }
+    ensures pending { PendingFrom from knowledge.now result }
 {
-    for (number, known) in knowledge.iter().enumerate() {
-        if let Known::Fresh(values) = known {
+    for number in from..31 {
+        if let Known::Fresh(values) = &knowledge[number] {
             let values = *values;
             return Some(Pending { number, values });
         }
     }
     None
+}
+
+// An equation that is still to be followed: the first from the number on, or where there is none, the first of all.
+fn next_pending(knowledge: &[Known; 31], from: usize) -> Option<Pending>
+    ensures within { IfSome result (λ x. x.number < 31) }
+    ensures pending { NextPending knowledge.now result }
+{
+    if let Some(pending) = pending_from(knowledge, from) {
+        return Some(pending);
+    }
+    pending_from(knowledge, 0)
 }
 
 // Follows the equation.
@@ -254,9 +266,12 @@ fn least_knowledge<G: Algebra>(accepted: &Accepted<G>) -> Result<[Known; 31], Mi
     ensures { (s : System) → length accepted.now.file.now ≤ 65536 → Outlined (G.meaning accepted.now.alg.now) accepted.now.file.now s accepted.now.outline.now → Shaped s → Least (G.meaning accepted.now.alg.now) s result }
 {
     let mut knowledge = know_start(accepted.outline);
+    // Round and round, so that what is brought back to an equation gathers until its turn comes again.
+    let mut from = 0;
     // It ends: an equation that was followed is fresh again only with fewer values known.
-    while let Some(pending) = next_pending(&knowledge) {
+    while let Some(pending) = next_pending(&knowledge, from) {
         follow(accepted, &pending, &mut knowledge)?;
+        from = pending.number + 1;
     }
     Ok(knowledge)
 }
