@@ -269,9 +269,6 @@ module _ {X Y : Type 0} (R : X → Y → Type 0) (f : Y → List Brought) where
         brings = λ then b. l.brings then (brings_same (ap (λ zs. flat (map f zs)) (sym m.is)) (brings_join (f m.first) (flat (map f m.rest)) (w m.first m.here) b));
       }
 
-  pub bringing_stop : {ys : List Y} {xs more : List X} {old now : List Kept} (x : X) → xs ≡ x ∷ more → Bringing R f ys xs old now → ((y : Y) → R x y → ⊥) → ⊥
-  bringing_stop x e l w = let m = met R x l.left e l.pairs in w m.first m.here
-
   pub bringing_end : {ys : List Y} {xs : List X} {old : List Kept} (now : List Kept) → length xs ≡ 0 → Bringing R f ys xs old now → Brings (flat (map f ys)) old now
   bringing_end {xs = xs} now e l = l.brings now (brings_same (ap (λ zs. flat (map f zs)) (sym (none_left R xs l.left e l.pairs))) (brings_none now))
 
