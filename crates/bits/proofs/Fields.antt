@@ -1,5 +1,6 @@
 -- Laws of the fields of bits.
 use Rattle.std.proofs.Common.{◌≡◌, ℕ, zero, suc, ◌+◌, ◌-◌, ◌*◌, ◌/◌, ◌%◌, ◌^◌, ◌<◌, ◌≤◌, List, length, get_or, sym, refl, ap, ◌∙◌, subst, add-zero, mul_assoc, mul_comm, add-mul, suc-add, pow-suc, zero-add, zero-mul, one-add, arith, pow_mono, pow-add, shl_exact, shr-shr}
+use Rattle.std.specs.Int.{w32, from_be_bytes}
 use lib.Arith.{digits_lt}
 use Rattle.std.proofs.lemmas.Nat.{div-mul-add, mod-mul-add}
 use lib.Pow.{mod-pow-add}
@@ -72,15 +73,24 @@ byte_is f k h =
     sym (field_in f (8 * k) 8 (omega arith) ∙ ap (λ n. get_or f n 0 / 2 ^ (8 - 8 * k % 8 - 8) % 2 ^ 8) q ∙ ap (λ n. get_or f k 0 / 2 ^ n % 2 ^ 8) m ∙ g)
 
 -- one byte more of a field of bytes
+byte_more : (f : List ℕ) (a i : ℕ) → get_or f (a + i) 0 < 256 → field f (8 * a) (8 * i) * 2 ^ 8 + get_or f (a + i) 0 ≡ field f (8 * a) (8 * i + 8)
+byte_more f a i b =
+    let p : 8 * (a + i) ≡ 8 * a + 8 * i = omega arith in
+    ap (λ x. field f (8 * a) (8 * i) * 2 ^ 8 + x) (byte_is f (a + i) b ∙ ap (λ q. field f q 8) p) ∙ sym (field_join f (8 * a) (8 * i) 8)
+
 pub field_byte : (f : List ℕ) (a i v : ℕ) → i ≤ 4 → get_or f (a + i) 0 < 256 → v ≡ field f (8 * a) (8 * i) → v * 256 % 2 ^ 64 + get_or f (a + i) 0 ≡ field f (8 * a) (8 * (i + 1))
 field_byte f a i v h b e =
     let s : v < 2 ^ (8 * i) = rw e (field_small f (8 * a) (8 * i)) in
     let m : 2 ^ (8 * i) ≤ 2 ^ 32 = pow_mono {i = 8 * i} {j = 32} (omega arith) in
     let w : v * 256 % 2 ^ 64 ≡ v * 2 ^ 8 = omega arith in
-    let p : 8 * (a + i) ≡ 8 * a + 8 * i = omega arith in
     let n : 8 * i + 8 ≡ 8 * (i + 1) = omega arith in
-    ap (λ x. x + get_or f (a + i) 0) w ∙ ap (λ x. v * 2 ^ 8 + x) (byte_is f (a + i) b ∙ ap (λ q. field f q 8) p) ∙
-    ap (λ x. x * 2 ^ 8 + field f (8 * a + 8 * i) 8) e ∙ sym (field_join f (8 * a) (8 * i) 8) ∙ ap (λ q. field f (8 * a) q) n
+    ap (λ x. x + get_or f (a + i) 0) w ∙ ap (λ x. x * 2 ^ 8 + get_or f (a + i) 0) e ∙ byte_more f a i b ∙ ap (λ q. field f (8 * a) q) n
+
+-- four bytes as a number
+pub four_bytes : (f bs : List ℕ) (a : ℕ) → ((k : ℕ) → get_or f k 0 < 256) → ((i : ℕ) → i < 4 → get_or bs i 0 ≡ get_or f (a + i) 0) → from_be_bytes w32 bs ≡ field f (8 * a) (8 * 4)
+four_bytes f bs a small same =
+    let more : (i : ℕ) → i < 4 → field f (8 * a) (8 * i) * 2 ^ 8 + get_or bs i 0 ≡ field f (8 * a) (8 * i + 8) = λ i h. ap (λ x. field f (8 * a) (8 * i) * 2 ^ 8 + x) (same i h) ∙ byte_more f a i (small (a + i)) in
+    omega (arith, more 0 (omega arith), more 1 (omega arith), more 2 (omega arith), more 3 (omega arith))
 
 -- a field cut out of one that begins before it and ends behind it
 pub field_cut : (f : List ℕ) (p d w t : ℕ) → field f p (d + w + t) / 2 ^ t % 2 ^ w ≡ field f (p + d) w
@@ -89,12 +99,10 @@ field_cut f p d w t =
     ap (λ n. n % 2 ^ w) (div-mul-add (field f p (d + w)) (2 ^ t) (field f (p + (d + w)) t) (field_small f (p + (d + w)) t)) ∙
     ap (λ n. n % 2 ^ w) (field_join f p d w) ∙ mod-mul-add (field f p d) (2 ^ w) (field f (p + d) w) (field_small f (p + d) w)
 
--- a field cut out of the bytes that it touches
-pub field_of_bytes : (f : List ℕ) (p w n v : ℕ) → w ≤ 32 → n ≡ (p + w + 7) / 8 - p / 8 → v ≡ field f (8 * (p / 8)) (8 * n) → v / 2 ^ (8 * ((p + w + 7) / 8) - (p + w)) % (1 * 2 ^ w % 2 ^ 64) ≡ field f p w
-field_of_bytes f p w n v h e i =
-    let t = 8 * ((p + w + 7) / 8) - (p + w) in
+-- a field cut out of n bytes that hold it, with t bits behind it
+pub field_of_bytes : (f : List ℕ) (p w n t v : ℕ) → w ≤ 32 → 8 * n ≡ p % 8 + w + t → v ≡ field f (8 * (p / 8)) (8 * n) → v / 2 ^ t % (1 * 2 ^ w % 2 ^ 64) ≡ field f p w
+field_of_bytes f p w n t v h z i =
     let d = p % 8 in
-    let z : 8 * n ≡ d + w + t = omega arith in
     let q : 8 * (p / 8) + d ≡ p = omega arith in
     let s : 1 * 2 ^ w % 2 ^ 64 ≡ 2 ^ w = shl_exact {a = 1} 1 w 64 (omega arith) (omega arith) ∙ (let e : 1 * 2 ^ w ≡ 2 ^ w = omega arith in e) in
     ap (λ m. v / 2 ^ t % m) s ∙ ap (λ x. x / 2 ^ t % 2 ^ w) (i ∙ ap (λ m. field f (8 * (p / 8)) m) z) ∙ field_cut f (8 * (p / 8)) d w t ∙ ap (λ x. field f x w) q

@@ -5,7 +5,7 @@ ghost use Rattle.definitions.specs.Reading.{take};
 ghost use Rattle.bits.specs.Took.{took};
 
 // The field of `width` bits from `at` on, cut out of the bytes that it touches.
-fn number(bytes: &[u8], at: usize, width: u32) -> u32
+fn number_of_bytes(bytes: &[u8], at: usize, width: u32) -> u32
     requires few { length bytes.now ≤ 65536 }
     requires narrow { width ≤ 32 }
     requires within { at + width ≤ 8 * length bytes.now }
@@ -19,6 +19,24 @@ fn number(bytes: &[u8], at: usize, width: u32) -> u32
     }
     let behind = 8 * last - end;
     ((all >> behind) % (1 << width)) as u32
+}
+
+// The field of `width` bits from `at` on.
+fn number(bytes: &[u8], at: usize, width: u32) -> u32
+    requires few { length bytes.now ≤ 65536 }
+    requires narrow { width ≤ 32 }
+    requires within { at + width ≤ 8 * length bytes.now }
+    ensures { result ≡ bit_field bytes.now at width }
+{
+    // Four bytes hold a field of up to 25 bits, wherever it begins; only at its end has a file fewer.
+    match bytes[at / 8..].first_chunk::<4>() {
+        Some(four) if width <= 25 => {
+            let all = u32::from_be_bytes(*four) as u64;
+            let behind = 32 - at % 8 - width as usize;
+            ((all >> behind) % (1 << width)) as u32
+        }
+        _ => number_of_bytes(bytes, at, width),
+    }
 }
 
 /// Fields of a file, from a place on.

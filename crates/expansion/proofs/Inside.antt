@@ -1,6 +1,6 @@
 -- What stands behind an opening, and the form behind h.
 use Rattle.std.proofs.Common.{◌≡◌, ℕ, Bool, true, false, List, [], ◌∷◌, map, length, Some, None, Option, Result, refl, ap, ◌∙◌, subst, arith}
-use Rattle.std.specs.Option.{is_some}
+use Rattle.std.specs.Option.{is_some, option_map}
 use Rattle.definitions.specs.Lists.{keep}
 use Rattle.definitions.specs.Alg.{Alg}
 use Rattle.definitions.specs.Systems.{forall, Occurrence, Clause, Equation, System}
@@ -18,12 +18,17 @@ use Rattle.expansion.specs.declared.draft.Unfinished.{Unfinished}
 use Rattle.expansion.specs.Drafts.{DraftsForm}
 use Rattle.expansion.proofs.Walking.{pairs_with}
 
-pub not_found : {X P : Type 0} (o : Option X) (Q : X → Type 0) → false ≡ is_some o → Found o Q → P
-not_found None Q e h = absurd h
-not_found (Some x) Q e h = absurd cc
+-- what is read into a row, which is now y
+pub not_found : {X Y P : Type 0} (o : Option X) (y : Y) (Q : Y → Type 0) → false ≡ is_some o → Found (option_map (λ _. y) o) Q → P
+not_found None y Q e h = absurd h
+not_found (Some x) y Q e h = absurd cc
 
-pub found : {X : Type 0} (o : Option X) (Q : X → Type 0) (x : X) → o ≡ Some x → Found o Q → Q x
-found o Q x e h = subst (λ p. Found p Q) e h
+pub found : {X Y : Type 0} (o : Option X) (y : Y) (Q : Y → Type 0) (x : X) → o ≡ Some x → Found (option_map (λ _. y) o) Q → Q y
+found o y Q x e h = subst (λ p. Found (option_map (λ _. y) p) Q) e h
+
+pub not_some : {X P : Type 0} (o : Option X) (x : X) → false ≡ is_some o → o ≡ Some x → P
+not_some None x e h = absurd cc
+not_some (Some y) x e h = absurd cc
 
 module _ (a : Alg) (hs : List Header) (c : Scope) (f : List ℕ) where
   pub occurrences_there : (xs : List OccurrenceAt) (os : List Occurrence) → Pairs (λ x o. (u : ℕ) × OccurrenceOf a f o u x) xs os → Every (OccurrenceFits a hs c) os → Pairs (OccurrenceThere a hs c f) xs os

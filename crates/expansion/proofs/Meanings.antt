@@ -1,5 +1,6 @@
 -- The values of an occurrence's arguments, kept in an array with zeros behind them.
-use Rattle.std.proofs.Common.{◌≡◌, ℕ, zero, suc, ◌-◌, ◌<◌, ◌≤◌, List, [], ◌∷◌, ◌++◌, map, length, get_or, replicate, Some, None, Option, sym, refl, ap, ◌∙◌, ap₂, arith, length-append}
+use Rattle.std.proofs.Common.{◌≡◌, ℕ, zero, suc, ◌+◌, ◌-◌, ◌<◌, ◌≤◌, List, [], ◌∷◌, ◌++◌, map, length, get_or, set, take, replicate, Some, None, Option, sym, refl, ap, ◌∙◌, ap₂, add-one, arith, length-append, length-set}
+use Rattle.std.proofs.lemmas.List.{take_all}
 use Rattle.std.specs.Option.{unwrap_or}
 use lib.ListN.{length-map, length-replicate}
 use Rattle.definitions.specs.Lists.{at, bind, or_else}
@@ -8,7 +9,6 @@ use Rattle.definitions.specs.Systems.{Term, Occurrence, fold}
 use Rattle.definitions.specs.ReadSystem.{greatest_depth}
 use Rattle.definitions.specs.Values.{kind_known, value_of, values_of}
 use Rattle.terms.specs.Shapes.{standing}
-use Rattle.terms.specs.Known.{Alike}
 use Rattle.rows.specs.Listed.{listed, listed_within}
 use Rattle.theorems.proofs.Listing.{map_twice}
 use Rattle.theorems.proofs.Repack.{same_list}
@@ -30,14 +30,38 @@ unwrapped : (o : Option ℕ) → unwrap_or o 0 ≡ or_else o 0
 unwrapped None = refl
 unwrapped (Some v) = refl
 
-filled : (values ks : List (Option ℕ)) (ys : List ℕ) → length ys ≡ 15 → length ks ≤ 15 → ((i : ℕ) → i < 15 → get_or ys i 0 ≡ unwrap_or (get_or values i None) 0) → Alike values ks →
+filled : (ks : List (Option ℕ)) (ys : List ℕ) → length ys ≡ 15 → length ks ≤ 15 → ((i : ℕ) → get_or ys i 0 ≡ unwrap_or (get_or ks i None) 0) →
     ys ≡ map (λ o. or_else o 0) ks ++ replicate (15 - length ks) 0
-filled values ks ys l few h alike =
+filled ks ys l few h =
     let m = 15 - length ks in
     let long : length (map (λ o. or_else o 0) ks ++ replicate m 0) ≡ 15 =
     length-append (map (λ o. or_else o 0) ks) (replicate m 0) ∙ (let a = length-map ks (λ (o : Option ℕ). or_else o 0) in let b = length-replicate {A = ℕ} m 0 in omega arith) in
     same_list ys (map (λ o. or_else o 0) ks ++ replicate m 0) (l ∙ sym long)
-    (λ i n. h i (omega arith) ∙ unwrapped (get_or values i None) ∙ ap (λ o. or_else o 0) (alike i) ∙ sym (get_filled ks m i))
+    (λ i n. h i ∙ unwrapped (get_or ks i None) ∙ sym (get_filled ks m i))
+
+-- the first i of xs have values, each as f says, and zeros stand behind them
+pub record Filled (f : ℕ → Option ℕ) (xs : List ℕ) (i : ℕ) (ys : List ℕ) : Type 0 where
+  pub long : length ys ≡ 15
+  pub each : (n : ℕ) → get_or ys n 0 ≡ unwrap_or (get_or (map f (take i xs)) n None) 0
+
+module _ (f : ℕ → Option ℕ) where
+  pub filled_first : (xs : List ℕ) → Filled f xs 0 (replicate 15 0)
+  filled_first xs = record { long = refl; each = get_zero 15 }
+
+  one_more : (xs : List ℕ) (i : ℕ) (ys : List ℕ) → i < length xs → i < length ys → ((n : ℕ) → get_or ys n 0 ≡ unwrap_or (get_or (map f (take i xs)) n None) 0) →
+      (n : ℕ) → get_or (set ys i (unwrap_or (f (get_or xs i 0)) 0)) n 0 ≡ unwrap_or (get_or (map f (take (suc i) xs)) n None) 0
+  one_more [] i ys l h a n = absurd (omega arith)
+  one_more (x ∷ xs) i [] l h a n = absurd (omega arith)
+  one_more (x ∷ xs) zero (y ∷ ys) l h a zero = refl
+  one_more (x ∷ xs) zero (y ∷ ys) l h a (suc n) = a (suc n)
+  one_more (x ∷ xs) (suc i) (y ∷ ys) l h a zero = a 0
+  one_more (x ∷ xs) (suc i) (y ∷ ys) l h a (suc n) = one_more xs i ys (omega arith) (omega arith) (λ n. a (suc n)) n
+
+  pub filled_next : {xs : List ℕ} {i : ℕ} {ys : List ℕ} (v : ℕ) → i < length xs → i < 15 → v ≡ unwrap_or (f (get_or xs i 0)) 0 → Filled f xs i ys → Filled f xs (i + 1) (set ys i v)
+  filled_next {xs = xs} {i = i} {ys = ys} v l h k b = record {
+    long = length-set ys i v ∙ b.long;
+    each = λ n. ap (λ w. get_or (set ys i w) n 0) k ∙ one_more xs i ys l (omega (arith, b.long)) b.each n ∙ ap (λ j. unwrap_or (get_or (map f (take j xs)) n None) 0) (sym (add-one i));
+  }
 
 -- the places of terms, and their values
 module _ (a : Alg) (f : List ℕ) (ps vs : List ℕ) where
@@ -51,12 +75,13 @@ module _ (a : Alg) (f : List ℕ) (ps vs : List ℕ) where
   values_there (q ∷ qs) (t ∷ ts) e h =
       ap₂ (λ o os. o ∷ os) (ap (λ (o : Option Term). bind o (λ t. fold t (kind_known a (map Some ps) (map Some vs)))) (h 0 t refl)) (values_there qs ts (omega arith) (λ k u w. h (suc k) u w))
 
-  pub values_kept : (o : Occurrence) (q : ℕ) (x : OccurrenceAt) (values : List (Option ℕ)) (ys : List ℕ) → OccurrenceOf a f o q x → length ys ≡ 15 →
-      ((i : ℕ) → i < 15 → get_or ys i 0 ≡ unwrap_or (get_or values i None) 0) → Alike values (map value_at (listed x.arguments)) → ys ≡ padded (values_of a ps vs o.arguments)
-  values_kept o q x values ys r l h alike =
-      let ks = map value_at (listed x.arguments) in
-      let few : length ks ≤ 15 = (let a = length-map (listed x.arguments) value_at in let b = listed_within x.arguments in omega arith) in
-      let is : ks ≡ map (value_of a ps vs) o.arguments = values_there (listed x.arguments) o.arguments r.count r.arguments in
+  pub values_kept : (o : Occurrence) (q : ℕ) (x : OccurrenceAt) (i : ℕ) (ys : List ℕ) → OccurrenceOf a f o q x → length (listed x.arguments) ≤ i → Filled value_at (listed x.arguments) i ys → ys ≡ padded (values_of a ps vs o.arguments)
+  values_kept o q x i ys r h b =
+      let qs = listed x.arguments in
+      let ks = map value_at qs in
+      let few : length ks ≤ 15 = (let a = length-map qs value_at in let b = listed_within x.arguments in omega arith) in
+      let is : ks ≡ map (value_of a ps vs) o.arguments = values_there qs o.arguments r.count r.arguments in
       let vals : map (λ o. or_else o 0) ks ≡ values_of a ps vs o.arguments = ap (map (λ o. or_else o 0)) is ∙ map_twice (λ (o : Option ℕ). or_else o 0) (value_of a ps vs) o.arguments in
       let n : length ks ≡ length (values_of a ps vs o.arguments) = sym (length-map ks (λ (o : Option ℕ). or_else o 0)) ∙ ap length vals in
-      filled values ks ys l few h alike ∙ ap₂ (λ zs m. zs ++ replicate (15 - m) 0) vals n
+      filled ks ys b.long few (λ n. b.each n ∙ ap (λ zs. unwrap_or (get_or (map value_at zs) n None) 0) (take_all i qs h)) ∙
+      ap₂ (λ zs m. zs ++ replicate (15 - m) 0) vals n

@@ -23,6 +23,33 @@ use system::instance::Instance;
 use system::value::Environment;
 use system::walk::{Accepted, BodyAt, ClauseAt, OccurrenceAt};
 
+// The clauses and the occurrences that were opened last. Every walk fills the same rows anew, since to make a row takes longer than most walks.
+#[derive(Drop)]
+pub(crate) struct Opened {
+    clauses: Row<ClauseAt, 15>,
+    occurrences: Row<OccurrenceAt, 8>,
+}
+
+impl Opened {
+    pub(crate) fn new() -> Opened
+        ensures clauses { listed result.clauses ≡ [] }
+        ensures occurrences { listed result.occurrences ≡ [] }
+    {
+        Opened {
+            clauses: Row::new(ClauseAt {
+                guard: 0,
+                count: 1,
+                next: 0,
+            }),
+            occurrences: Row::new(OccurrenceAt {
+                target: 0,
+                arguments: Row::new(0),
+                next: 0,
+            }),
+        }
+    }
+}
+
 // Whether the term at the place is true.
 fn holds<G: Algebra>(accepted: &Accepted<G>, env: &Environment, at: usize) -> bool
     ensures { (t : Tree) (ps vs : List ℕ) → Bound ps vs env.now → standing (G.meaning accepted.now.alg.now) greatest_depth accepted.now.file.now at ≡ Some t → result ≡ is_true (G.meaning accepted.now.alg.now) ps vs t }
@@ -38,10 +65,14 @@ fn meant<G: Algebra>(
 ) -> Instance
     ensures { (o : Occurrence) (q : ℕ) (ps vs : List ℕ) → Bound ps vs env.now → OccurrenceOf (G.meaning accepted.now.alg.now) accepted.now.file.now o q occurrence.now → StandsFor result (occurrence_meant (G.meaning accepted.now.alg.now) ps vs o) }
 {
-    let values = accepted.argument_values(env, occurrence);
+    let mut values = [0; 15];
+    // By index: of what `iter_mut().zip(..)` has written a proof knows nothing afterwards.
+    for (i, at) in occurrence.arguments.as_slice().iter().enumerate() {
+        values[i] = accepted.known(env, *at).unwrap_or(0);
+    }
     Instance {
         equation: occurrence.target,
-        values: values.map(|value| value.unwrap_or(0)),
+        values,
     }
 }
 
@@ -65,12 +96,15 @@ fn write_clause<G: Algebra>(
     accepted: &Accepted<G>,
     env: &Environment,
     clause: &ClauseAt,
+    occurrences: &mut Row<OccurrenceAt, 8>,
     draft: &mut Draft,
 ) -> Result<(), Unfinished>
     ensures { (s : System) (c : Scope) (k : Clause) (ps vs : List ℕ) → length accepted.now.file.now ≤ 65536 → kept_headers accepted.now.outline.now ≡ map header_of s.equations → Bound ps vs env.now → ClauseThere (G.meaning accepted.now.alg.now) (kept_headers accepted.now.outline.now) c accepted.now.file.now clause.now k → DraftsForm s (clause_form (G.meaning accepted.now.alg.now) ps vs k) draft.old draft.new result }
 {
     draft.put_parts(Token::Any, clause.count as u32);
-    let occurrences = accepted.occurrences(clause).ok_or(Unfinished)?;
+    accepted
+        .read_occurrences(clause, occurrences)
+        .ok_or(Unfinished)?;
     write_occurrences(accepted, env, occurrences.as_slice(), draft)
 }
 
@@ -97,13 +131,14 @@ fn write_clauses<G: Algebra>(
     accepted: &Accepted<G>,
     env: &Environment,
     clauses: &[ClauseAt],
+    occurrences: &mut Row<OccurrenceAt, 8>,
     draft: &mut Draft,
 ) -> Result<(), Unfinished>
     ensures { (s : System) (c : Scope) (ks : List Clause) (ps vs : List ℕ) → length accepted.now.file.now ≤ 65536 → kept_headers accepted.now.outline.now ≡ map header_of s.equations → Bound ps vs env.now → Pairs (ClauseThere (G.meaning accepted.now.alg.now) (kept_headers accepted.now.outline.now) c accepted.now.file.now) clauses.now ks → DraftsForms s (map (clause_form (G.meaning accepted.now.alg.now) ps vs) (keep (λ (k : Clause). is_true (G.meaning accepted.now.alg.now) ps vs k.guard) ks)) draft.old draft.new result }
 {
     for clause in clauses {
         if holds(accepted, env, clause.guard) {
-            write_clause(accepted, env, clause, draft)?;
+            write_clause(accepted, env, clause, occurrences, draft)?;
         }
     }
     Ok(())
@@ -114,6 +149,7 @@ fn write_inside<G: Algebra>(
     accepted: &Accepted<G>,
     env: &Environment,
     body: BodyAt,
+    opened: &mut Opened,
     draft: &mut Draft,
 ) -> Result<(), Unfinished>
     ensures { (s : System) (e : Equation) (q : ℕ) (ps vs : List ℕ) → length accepted.now.file.now ≤ 65536 → kept_headers accepted.now.outline.now ≡ map header_of s.equations → Bound ps vs env.now → BodyOf (G.meaning accepted.now.alg.now) (kept_headers accepted.now.outline.now) (header_of e) accepted.now.file.now e q body → BodyFits (G.meaning accepted.now.alg.now) (kept_headers accepted.now.outline.now) e → DraftsForm s (inside_form (G.meaning accepted.now.alg.now) e ps vs) draft.old draft.new result }
@@ -122,14 +158,18 @@ fn write_inside<G: Algebra>(
         draft.put_token(Token::False);
         return Ok(());
     }
-    let clauses = accepted.clauses(&body).ok_or(Unfinished)?;
+    let Opened {
+        clauses,
+        occurrences,
+    } = opened;
+    accepted.read_clauses(&body, clauses).ok_or(Unfinished)?;
     let count = count_holding(accepted, env, clauses.as_slice());
     if count == 0 {
         draft.put_token(Token::True);
         return Ok(());
     }
     draft.put_parts(Token::All, count as u32);
-    write_clauses(accepted, env, clauses.as_slice(), draft)
+    write_clauses(accepted, env, clauses.as_slice(), occurrences, draft)
 }
 
 // The token that stands for the quantifier.
@@ -149,12 +189,13 @@ fn write_quantified<G: Algebra>(
     level: usize,
     env: Environment,
     body: BodyAt,
+    opened: &mut Opened,
     draft: &mut Draft,
 ) -> Result<(), Unfinished>
     ensures { (s : System) (e : Equation) (q : ℕ) (ps vs : List ℕ) → length accepted.now.file.now ≤ 65536 → kept_headers accepted.now.outline.now ≡ map header_of s.equations → e.quantified ≡ map kept_quantified (listed variables.now) → Every (λ (k : Variable). SortFits (G.meaning accepted.now.alg.now) k.sort) e.quantified → length vs ≡ level → Bound ps vs env → BodyOf (G.meaning accepted.now.alg.now) (kept_headers accepted.now.outline.now) (header_of e) accepted.now.file.now e q body → BodyFits (G.meaning accepted.now.alg.now) (kept_headers accepted.now.outline.now) e → DraftsForm s (spread (G.meaning accepted.now.alg.now) (drop level e.quantified) vs (inside_form (G.meaning accepted.now.alg.now) e ps)) draft.old draft.new result }
 {
     if level >= variables.len() {
-        return write_inside(accepted, &env, body, draft);
+        return write_inside(accepted, &env, body, opened, draft);
     }
     let variable = variables.as_slice()[level];
     let size = accepted.alg.size(variable.sort).ok_or(Unfinished)?;
@@ -162,7 +203,7 @@ fn write_quantified<G: Algebra>(
     for value in 0..size {
         let mut inner = env;
         inner.variables[level] = Some(value as u8);
-        write_quantified(accepted, variables, level + 1, inner, body, draft)?;
+        write_quantified(accepted, variables, level + 1, inner, body, opened, draft)?;
     }
     Ok(())
 }
@@ -171,6 +212,7 @@ fn write_quantified<G: Algebra>(
 pub(crate) fn write_variable<G: Algebra>(
     accepted: &Accepted<G>,
     instance: &Instance,
+    opened: &mut Opened,
     draft: &mut Draft,
 ) -> Result<(), Unfinished>
     ensures { (s : System) (x : Meant) → length accepted.now.file.now ≤ 65536 → Outlined (G.meaning accepted.now.alg.now) accepted.now.file.now s accepted.now.outline.now → SystemFits (G.meaning accepted.now.alg.now) s → Fine s x → StandsFor instance.now x → Drafts s (vars (form (G.meaning accepted.now.alg.now) s x)) (λ f. variable_bits (record { sign = sign_at (at_number s.equations x.0); rank = x.0; body = renamed (form (G.meaning accepted.now.alg.now) s x) f })) draft.old draft.new result }
@@ -184,5 +226,13 @@ pub(crate) fn write_variable<G: Algebra>(
         parameters: instance.known(equation.header.sorts.len()),
         variables: [None; 3],
     };
-    write_quantified(accepted, &equation.header.quantified, 0, env, body, draft)
+    write_quantified(
+        accepted,
+        &equation.header.quantified,
+        0,
+        env,
+        body,
+        opened,
+        draft,
+    )
 }

@@ -11,7 +11,7 @@ ghost use Rattle.system.specs.Whole.{Outlined};
 ghost use Rattle.expansion.specs.Drafts.{Drafted};
 ghost use Rattle.expansion.specs.Whole.{Numbers, HandsOver, told};
 
-use crate::body::write_variable;
+use crate::body::{Opened, write_variable};
 use crate::draft::{Draft, Unfinished};
 use crate::{Expansion, INSTANCES, LONGEST_BOOLEAN};
 use algebra::Algebra;
@@ -25,12 +25,13 @@ fn write_variables<G: Algebra>(accepted: &Accepted<G>, draft: &mut Draft) -> Res
     ensures { (s : System) → length accepted.now.file.now ≤ 65536 → Outlined (G.meaning accepted.now.alg.now) accepted.now.file.now s accepted.now.outline.now → SystemFits (G.meaning accepted.now.alg.now) s → Numbers (G.meaning accepted.now.alg.now) s draft.old draft.new result }
 {
     draft.begin(accepted.outline.start)?;
+    let mut opened = Opened::new();
     // The list grows while it is walked, so no iterator can hold it.
     for k in 0..INSTANCES {
         let Some(instance) = draft.list.get(k) else {
             return Ok(());
         };
-        write_variable(accepted, &instance, draft)?;
+        write_variable(accepted, &instance, &mut opened, draft)?;
     }
     Ok(())
 }

@@ -17,8 +17,9 @@ use Rattle.system.specs.Walks.{Found, Pairs}
 use Rattle.theorems.proofs.Listing.{every_left, every_right}
 use Rattle.passes.specs.declared.constants.Known.{Known as Kept}
 use Rattle.passes.specs.declared.constants.Known.TheVariants.{Unreached, Fresh, Followed}
+use Rattle.passes.specs.declared.constants.Pending.{Pending}
 use Rattle.passes.specs.declared.plan.Missing.{Missing}
-use Rattle.passes.specs.Learned.{Follows, Tells, Shows, kept_at, followed, fresh, values_known, rank, ranks, Joins, Brings, occurrence_brings}
+use Rattle.passes.specs.Learned.{Follows, PendingFrom, NextPending, Tells, Shows, kept_at, followed, fresh, values_known, rank, ranks, Joins, Brings, occurrence_brings}
 use Rattle.passes.proofs.Along.{met, none_left}
 
 -- lists of one length that tell the same are the same
@@ -268,9 +269,6 @@ module _ {X Y : Type 0} (R : X → Y → Type 0) (f : Y → List Brought) where
         brings = λ then b. l.brings then (brings_same (ap (λ zs. flat (map f zs)) (sym m.is)) (brings_join (f m.first) (flat (map f m.rest)) (w m.first m.here) b));
       }
 
-  pub bringing_stop : {ys : List Y} {xs more : List X} {old now : List Kept} (x : X) → xs ≡ x ∷ more → Bringing R f ys xs old now → ((y : Y) → R x y → ⊥) → ⊥
-  bringing_stop x e l w = let m = met R x l.left e l.pairs in w m.first m.here
-
   pub bringing_end : {ys : List Y} {xs : List X} {old : List Kept} (now : List Kept) → length xs ≡ 0 → Bringing R f ys xs old now → Brings (flat (map f ys)) old now
   bringing_end {xs = xs} now e l = l.brings now (brings_same (ap (λ zs. flat (map f zs)) (sym (none_left R xs l.left e l.pairs))) (brings_none now))
 
@@ -323,11 +321,11 @@ not_fresh Unreached h = refl
 not_fresh (Fresh vs) h = absurd (h vs refl)
 not_fresh (Followed vs) h = refl
 
-pub none_next : (T : List Kept) (i : ℕ) → ((j : ℕ) → j < i → fresh (kept_at T j) ≡ false) → fresh (kept_at T i) ≡ false → (j : ℕ) → j < i + 1 → fresh (kept_at T j) ≡ false
-none_next T i h e j l = go (cases_lt j i)
+pub none_next : (T : List Kept) (n i : ℕ) → ((j : ℕ) → n ≤ j → j < i → fresh (kept_at T j) ≡ false) → fresh (kept_at T i) ≡ false → (j : ℕ) → n ≤ j → j < i + 1 → fresh (kept_at T j) ≡ false
+none_next T n i h e j m l = go (cases_lt j i)
   where
     go : (j < i) ⊎ (i ≤ j) → fresh (kept_at T j) ≡ false
-    go (inl k) = h j k
+    go (inl k) = h j m k
     go (inr k) = let same : i ≡ j = omega arith in subst (λ n. fresh (kept_at T n) ≡ false) same e
 
 past : (T : List Kept) (j : ℕ) → length T ≤ j → kept_at T j ≡ Unreached
@@ -335,12 +333,16 @@ past [] j l = refl
 past (x ∷ T) zero l = absurd (omega arith)
 past (x ∷ T) (suc j) l = past T j (omega arith)
 
-pub none_left_fresh : (T : List Kept) (i : ℕ) → length T ≤ i → ((j : ℕ) → j < i → fresh (kept_at T j) ≡ false) → (j : ℕ) → fresh (kept_at T j) ≡ false
-none_left_fresh T i l h j = go (cases_lt j i)
+pub none_left_fresh : (T : List Kept) (n i : ℕ) → length T ≤ i → ((j : ℕ) → n ≤ j → j < i → fresh (kept_at T j) ≡ false) → (j : ℕ) → n ≤ j → fresh (kept_at T j) ≡ false
+none_left_fresh T n i l h j m = go (cases_lt j i)
   where
     go : (j < i) ⊎ (i ≤ j) → fresh (kept_at T j) ≡ false
-    go (inl k) = h j k
+    go (inl k) = h j m k
     go (inr k) = ap fresh (past T j (omega arith))
+
+pub pending_all : (T : List Kept) (r : Option Pending) → PendingFrom 0 T r → NextPending T r
+pending_all T None h = λ i. h i (omega arith)
+pending_all T (Some x) h = h
 
 pub kept_lt : (T : List Kept) (i : ℕ) (vs : List (Option ℕ)) → kept_at T i ≡ Fresh vs → i < length T
 kept_lt [] i vs e = absurd cc

@@ -18,3 +18,4 @@ pub mod PlanU
 pub mod Applying
 pub mod Learning
 pub mod Learns
+pub mod Walking

@@ -73,7 +73,11 @@ abbrev pub Follows : {X : Type 0} → List Brought → List Kept → List Kept �
 Follows bs old new (Ok x) = Brings bs old new
 Follows bs old new (Err e) = ⊥
 
--- an equation that is still to be followed, with its values
+-- an equation that is still to be followed, with its values; none where there is none from the number n on, or none at all
+abbrev pub PendingFrom : ℕ → List Kept → Option Pending → Type 0
+PendingFrom n T None = (i : ℕ) → n ≤ i → fresh (kept_at T i) ≡ false
+PendingFrom n T (Some x) = kept_at T x.number ≡ Fresh x.values
+
 abbrev pub NextPending : List Kept → Option Pending → Type 0
 NextPending T None = (i : ℕ) → fresh (kept_at T i) ≡ false
 NextPending T (Some x) = kept_at T x.number ≡ Fresh x.values

@@ -1,28 +1,30 @@
 //! C: a parameter that has one and the same value wherever its equation is reached gives way to that value.
-ghost use Rattle.std.specs.Prelude.{◌≡◌, ℕ, ◌<◌, ◌≤◌, List, [], ◌∷◌, map, length, Some};
+ghost use Rattle.std.specs.Prelude.{◌≡◌, ℕ, ◌<◌, ◌≤◌, List, [], ◌∷◌, map, length, Some, Ok, IfSome};
 ghost use Rattle.definitions.specs.Lists.{flat};
 ghost use Rattle.definitions.specs.Alg.{Alg};
 ghost use Rattle.definitions.specs.Systems.{Occurrence, Clause, Equation, System};
-ghost use Rattle.definitions.specs.Reading.{next};
-ghost use Rattle.definitions.specs.ReadSystem.{Scope, Header, read_body};
+ghost use Rattle.definitions.specs.Reading.{next, repeated};
+ghost use Rattle.definitions.specs.ReadSystem.{Scope, Header, read_clause, read_body};
 ghost use Rattle.definitions.specs.Constants.{Known as KnownValues, agreed as both_know, agreed_all, clause_brings, equation_brings, pass_c};
 ghost use Rattle.theorems.specs.KnowledgeLaws.{Shaped};
 ghost use Rattle.terms.specs.Known.{Alike};
-ghost use Rattle.system.specs.Walks.{OccurrenceOf, ClauseOf, Pairs};
+ghost use Rattle.system.specs.Walks.{OccurrenceOf, Pairs};
 ghost use Rattle.system.specs.Whole.{kept_headers, Outlined};
 ghost use Rattle.passes.specs.declared.constants.Known.TheVariants.{Fresh};
 ghost use Rattle.passes.specs.Meanings.{c_rules};
 ghost use Rattle.passes.specs.Plans.{knowing, Planning};
-ghost use Rattle.passes.specs.Learned.{kept_at, ranks, put, occurrence_brings, Joins, Brings, Follows, NextPending, changing, Learnt, Learns, Least};
+ghost use Rattle.passes.specs.Learned.{kept_at, ranks, put, occurrence_brings, Joins, Brings, Follows, PendingFrom, NextPending, changing, Learnt, Learns, Least};
 
 use crate::Pass;
 use crate::plan::{Change, EquationChange, Missing, ParameterChange, Plan};
 use crate::rewrite::apply_planned;
+use crate::walked::no_occurrences;
 use algebra::Algebra;
 use faults::PassFault;
+use rows::Row;
 use system::reading::Outline;
 use system::value::Environment;
-use system::walk::{Accepted, ClauseAt, OccurrenceAt};
+use system::walk::{Accepted, BodyAt, OccurrenceAt};
 
 /// The pass C.
 #[derive(Clone, Copy, PartialEq, Eq, Debug)]
@@ -142,36 +144,43 @@ fn follow_occurrences<G: Algebra>(
     }
 }
 
-// Follows the occurrences of the clause, unless its guard is known false.
+// Follows the occurrences of the clause at the place, unless its guard is known false, and tells the place behind it.
 fn follow_clause<G: Algebra>(
     accepted: &Accepted<G>,
     env: &Environment,
-    clause: &ClauseAt,
+    at: usize,
+    occurrences: &mut Row<OccurrenceAt, 8>,
     knowledge: &mut [Known; 31],
-) -> Result<(), Missing>
+) -> Result<usize, Missing>
     ensures less { ranks knowledge.new ≤ ranks knowledge.old }
-    ensures brings { (ks : KnownValues) (c : Scope) (k : Clause) (q : ℕ) → length accepted.now.file.now ≤ 65536 → Alike env.now.parameters ks → Alike env.now.variables [] → ClauseOf (G.meaning accepted.now.alg.now) (kept_headers accepted.now.outline.now) c accepted.now.file.now k q clause.now → Follows (clause_brings (G.meaning accepted.now.alg.now) ks k) knowledge.old knowledge.new result }
+    ensures brings { (ks : KnownValues) (c : Scope) (k : Clause) (q : ℕ) → length accepted.now.file.now ≤ 65536 → Alike env.now.parameters ks → Alike env.now.variables [] → read_clause (G.meaning accepted.now.alg.now) (kept_headers accepted.now.outline.now) c accepted.now.file.now at ≡ next k q → Follows (clause_brings (G.meaning accepted.now.alg.now) ks k) knowledge.old knowledge.new result }
+    ensures behind { (c : Scope) (k : Clause) (q : ℕ) → length accepted.now.file.now ≤ 65536 → read_clause (G.meaning accepted.now.alg.now) (kept_headers accepted.now.outline.now) c accepted.now.file.now at ≡ next k q → result ≡ Ok q }
 {
-    if accepted.known(env, clause.guard) == Some(0) {
-        return Ok(());
+    if accepted.known(env, at) == Some(0) {
+        return accepted.end_of_clause(at).ok_or(Missing);
     }
-    let occurrences = accepted.occurrences(clause).ok_or(Missing)?;
+    let clause = accepted.open_clause(at).ok_or(Missing)?;
+    let next = accepted
+        .read_occurrences(&clause, occurrences)
+        .ok_or(Missing)?;
     follow_occurrences(accepted, env, occurrences.as_slice(), knowledge);
-    Ok(())
+    Ok(next)
 }
 
-// Follows each of the clauses.
+// Follows each clause of the body.
 fn follow_clauses<G: Algebra>(
     accepted: &Accepted<G>,
     env: &Environment,
-    clauses: &[ClauseAt],
+    body: &BodyAt,
+    occurrences: &mut Row<OccurrenceAt, 8>,
     knowledge: &mut [Known; 31],
 ) -> Result<(), Missing>
     ensures less { ranks knowledge.new ≤ ranks knowledge.old }
-    ensures brings { (ks : KnownValues) (c : Scope) (cs : List Clause) → length accepted.now.file.now ≤ 65536 → Alike env.now.parameters ks → Alike env.now.variables [] → Pairs (λ x k. (u : ℕ) × ClauseOf (G.meaning accepted.now.alg.now) (kept_headers accepted.now.outline.now) c accepted.now.file.now k u x) clauses.now cs → Follows (flat (map (clause_brings (G.meaning accepted.now.alg.now) ks) cs)) knowledge.old knowledge.new result }
+    ensures brings { (ks : KnownValues) (c : Scope) (cs : List Clause) (q : ℕ) → length accepted.now.file.now ≤ 65536 → Alike env.now.parameters ks → Alike env.now.variables [] → repeated (read_clause (G.meaning accepted.now.alg.now) (kept_headers accepted.now.outline.now) c) body.now.count accepted.now.file.now body.now.next ≡ next cs q → Follows (flat (map (clause_brings (G.meaning accepted.now.alg.now) ks) cs)) knowledge.old knowledge.new result }
 {
-    for clause in clauses {
-        follow_clause(accepted, env, clause, knowledge)?;
+    let mut next = body.next;
+    for _ in 0..body.count {
+        next = follow_clause(accepted, env, next, occurrences, knowledge)?;
     }
     Ok(())
 }
@@ -181,6 +190,7 @@ fn follow_equation<G: Algebra>(
     accepted: &Accepted<G>,
     at: usize,
     parameters: Values,
+    occurrences: &mut Row<OccurrenceAt, 8>,
     knowledge: &mut [Known; 31],
 ) -> Result<(), Missing>
     ensures less { ranks knowledge.new ≤ ranks knowledge.old }
@@ -194,8 +204,7 @@ fn follow_equation<G: Algebra>(
     if accepted.known(&env, body.h) == Some(0) {
         return Ok(());
     }
-    let clauses = accepted.clauses(&body).ok_or(Missing)?;
-    follow_clauses(accepted, &env, clauses.as_slice(), knowledge)
+    follow_clauses(accepted, &env, &body, occurrences, knowledge)
 }
 
 // An equation that is still to be followed: its number, and what is known of its parameters.
@@ -205,12 +214,13 @@ struct Pending {
     values: [Option<u8>; 15],
 }
 
-// The first equation that is still to be followed.
-fn next_pending(knowledge: &[Known; 31]) -> Option<Pending>
-    ensures { NextPending knowledge.now result }
+// The first equation from the number on that is still to be followed.
+fn pending_from(knowledge: &[Known; 31], from: usize) -> Option<Pending>
+    ensures within { IfSome result (λ x. x.number < 31) }
+    ensures pending { PendingFrom from knowledge.now result }
 {
-    for (number, known) in knowledge.iter().enumerate() {
-        if let Known::Fresh(values) = known {
+    for number in from..31 {
+        if let Known::Fresh(values) = &knowledge[number] {
             let values = *values;
             return Some(Pending { number, values });
         }
@@ -218,10 +228,22 @@ fn next_pending(knowledge: &[Known; 31]) -> Option<Pending>
     None
 }
 
+// An equation that is still to be followed: the first from the number on, or where there is none, the first of all.
+fn next_pending(knowledge: &[Known; 31], from: usize) -> Option<Pending>
+    ensures within { IfSome result (λ x. x.number < 31) }
+    ensures pending { NextPending knowledge.now result }
+{
+    if let Some(pending) = pending_from(knowledge, from) {
+        return Some(pending);
+    }
+    pending_from(knowledge, 0)
+}
+
 // Follows the equation.
 fn follow<G: Algebra>(
     accepted: &Accepted<G>,
     pending: &Pending,
+    occurrences: &mut Row<OccurrenceAt, 8>,
     knowledge: &mut [Known; 31],
 ) -> Result<(), Missing>
     requires { kept_at knowledge.old pending.now.number ≡ Fresh pending.now.values }
@@ -233,7 +255,7 @@ fn follow<G: Algebra>(
     knowledge[number] = Known::Followed(values);
     let equations = accepted.outline.equations.as_slice();
     let equation = equations.get(number).ok_or(Missing)?;
-    follow_equation(accepted, equation.body, values, knowledge)
+    follow_equation(accepted, equation.body, values, occurrences, knowledge)
 }
 
 // The start is reached, with all its values known.
@@ -254,9 +276,13 @@ fn least_knowledge<G: Algebra>(accepted: &Accepted<G>) -> Result<[Known; 31], Mi
     ensures { (s : System) → length accepted.now.file.now ≤ 65536 → Outlined (G.meaning accepted.now.alg.now) accepted.now.file.now s accepted.now.outline.now → Shaped s → Least (G.meaning accepted.now.alg.now) s result }
 {
     let mut knowledge = know_start(accepted.outline);
+    let mut occurrences = no_occurrences();
+    // Round and round, so that what is brought back to an equation gathers until its turn comes again.
+    let mut from = 0;
     // It ends: an equation that was followed is fresh again only with fewer values known.
-    while let Some(pending) = next_pending(&knowledge) {
-        follow(accepted, &pending, &mut knowledge)?;
+    while let Some(pending) = next_pending(&knowledge, from) {
+        follow(accepted, &pending, &mut occurrences, &mut knowledge)?;
+        from = pending.number + 1;
     }
     Ok(knowledge)
 }

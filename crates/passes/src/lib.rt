@@ -15,6 +15,7 @@ mod plan;
 pub mod redundant;
 mod rewrite;
 pub mod unreachable_equations;
+mod walked;
 mod written;
 
 use algebra::Algebra;

@@ -3,8 +3,8 @@
 ghost use Rattle.std.specs.Prelude.{◌≡◌, ℕ, ◌≤◌, List, map, length, true, Some};
 ghost use Rattle.definitions.specs.Lists.{at, flat, some};
 ghost use Rattle.definitions.specs.Systems.{Term as Tree, Occurrence as ReadOccurrence, Clause as ReadClause, Equation as ReadEquation, System};
-ghost use Rattle.definitions.specs.Reading.{next};
-ghost use Rattle.definitions.specs.ReadSystem.{Scope, Header as Heading, greatest_depth, read_body};
+ghost use Rattle.definitions.specs.Reading.{next, repeated};
+ghost use Rattle.definitions.specs.ReadSystem.{Scope, Header as Heading, greatest_depth, read_clause, read_body};
 ghost use Rattle.definitions.specs.Fits.{SystemFits};
 ghost use Rattle.definitions.specs.Passes.{occurrences as occurring, pass_r};
 ghost use Rattle.terms.specs.Shapes.{standing};
@@ -19,13 +19,15 @@ ghost use Rattle.passes.specs.Comes.{Has, Room, Brings, Gathers, Follows, Occurr
 use crate::Pass;
 use crate::plan::{Change, Missing, ParameterChange, Plan};
 use crate::rewrite::apply_planned;
+use crate::walked::no_occurrences;
 use algebra::Algebra;
 use faults::PassFault;
 use firstcome::FirstCome;
+use rows::Row;
 use system::DEPTH;
 use system::occur::occurs;
 use system::reading::Equation;
-use system::walk::{Accepted, ClauseAt, OccurrenceAt};
+use system::walk::{Accepted, BodyAt, ClauseAt, OccurrenceAt};
 
 /// The pass R.
 #[derive(Clone, Copy, PartialEq, Eq, Debug)]
@@ -145,17 +147,22 @@ fn occurrences_feed<G: Algebra>(
     Ok(())
 }
 
-// The same for the occurrences of each clause.
+// The same for the occurrences of each clause of the body.
 fn clauses_feed<G: Algebra>(
     accepted: &Accepted<G>,
     numbered: &Numbered,
-    clauses: &[ClauseAt],
+    body: &BodyAt,
+    occurrences: &mut Row<OccurrenceAt, 8>,
     list: &mut FirstCome<Parameter>,
 ) -> Result<(), Missing>
-    ensures { (c : Scope) (ks : List ReadClause) → length accepted.now.file.now ≤ 65536 → Pairs (λ x k. (u : ℕ) × ClauseOf (G.meaning accepted.now.alg.now) (kept_headers accepted.now.outline.now) c accepted.now.file.now k u x) clauses.now ks → Follows (Pointing numbered.now.number (length (listed numbered.now.equation.now.header.sorts)) (flat (map (λ (k : ReadClause). k.occurrences) ks))) list.old list.new result }
+    ensures { (c : Scope) (ks : List ReadClause) (q : ℕ) → length accepted.now.file.now ≤ 65536 → repeated (read_clause (G.meaning accepted.now.alg.now) (kept_headers accepted.now.outline.now) c) body.now.count accepted.now.file.now body.now.next ≡ next ks q → Follows (Pointing numbered.now.number (length (listed numbered.now.equation.now.header.sorts)) (flat (map (λ (k : ReadClause). k.occurrences) ks))) list.old list.new result }
 {
-    for clause in clauses {
-        let occurrences = accepted.occurrences(clause).ok_or(Missing)?;
+    let mut next = body.next;
+    for _ in 0..body.count {
+        let clause = accepted.open_clause(next).ok_or(Missing)?;
+        next = accepted
+            .read_occurrences(&clause, occurrences)
+            .ok_or(Missing)?;
         occurrences_feed(accepted, numbered, occurrences.as_slice(), list)?;
     }
     Ok(())
@@ -165,25 +172,27 @@ fn clauses_feed<G: Algebra>(
 fn equation_feeds<G: Algebra>(
     accepted: &Accepted<G>,
     numbered: &Numbered,
+    occurrences: &mut Row<OccurrenceAt, 8>,
     list: &mut FirstCome<Parameter>,
 ) -> Result<(), Missing>
     ensures { (h : Heading) (e : ReadEquation) (q : ℕ) → length accepted.now.file.now ≤ 65536 → read_body (G.meaning accepted.now.alg.now) (kept_headers accepted.now.outline.now) h accepted.now.file.now numbered.now.equation.now.body ≡ next e q → Follows (Pointing numbered.now.number (length (listed numbered.now.equation.now.header.sorts)) (occurring e)) list.old list.new result }
 {
     let body = accepted.open_body(numbered.equation.body).ok_or(Missing)?;
-    let clauses = accepted.clauses(&body).ok_or(Missing)?;
-    clauses_feed(accepted, numbered, clauses.as_slice(), list)
+    clauses_feed(accepted, numbered, &body, occurrences, list)
 }
 
 // The same for the occurrences of every equation.
 fn pointing_come<G: Algebra>(
     accepted: &Accepted<G>,
+    occurrences: &mut Row<OccurrenceAt, 8>,
     list: &mut FirstCome<Parameter>,
 ) -> Result<(), Missing>
     ensures { (s : System) → length accepted.now.file.now ≤ 65536 → Outlined (G.meaning accepted.now.alg.now) accepted.now.file.now s accepted.now.outline.now → Follows (Points s) list.old list.new result }
 {
     let equations = accepted.outline.equations.as_slice();
     for (number, equation) in equations.iter().enumerate() {
-        equation_feeds(accepted, &Numbered { number, equation }, list)?;
+        let numbered = Numbered { number, equation };
+        equation_feeds(accepted, &numbered, occurrences, list)?;
     }
     Ok(())
 }
@@ -195,10 +204,11 @@ fn rounds_come<G: Algebra>(
 ) -> Result<(), Missing>
     ensures { (s : System) → length accepted.now.file.now ≤ 65536 → Outlined (G.meaning accepted.now.alg.now) accepted.now.file.now s accepted.now.outline.now → SystemFits (G.meaning accepted.now.alg.now) s → Room (wanted s) list.old → Brings (wanted s) (Points s (Has (came list.new))) list.old list.new result }
 {
+    let mut occurrences = no_occurrences();
     // Each round but the last brings one of at most 465 parameters, so one of 466 is the last.
     for _round in 0..466usize {
         let before = list.len;
-        pointing_come(accepted, list)?;
+        pointing_come(accepted, &mut occurrences, list)?;
         if list.len == before {
             return Ok(());
         }

@@ -25,10 +25,12 @@ ghost use Rattle.passes.specs.Rewrites.{quantified_bits, TermAt, OccurrenceThere
 
 use crate::folding::folds_to_false;
 use crate::plan::{Change, EquationChange, Missing, ParameterChange, Plan};
+use crate::walked::no_occurrences;
 use crate::written::{Edit, write_value};
 use algebra::Algebra;
 use bits::{BitWriter, Full, deliver};
 use faults::{PassFault, Reason};
+use rows::Row;
 use system::LONGEST;
 use system::header::{Header, Quantified};
 use system::reading::{Equation, read};
@@ -129,13 +131,20 @@ impl<'a, G: Algebra> Edit<'a, G> {
         Ok(())
     }
 
-    // A clause.
-    fn write_clause(&self, clause: &ClauseAt, writer: &mut BitWriter) -> Result<(), Full>
+    // A clause; its occurrences are read into the row.
+    fn write_clause(
+        &self,
+        clause: &ClauseAt,
+        occurrences: &mut Row<OccurrenceAt, 8>,
+        writer: &mut BitWriter,
+    ) -> Result<(), Full>
         ensures { (k : ReadClause) (vs : List ℕ) (q : ℕ) → length self.now.accepted.now.file.now ≤ 65536 → Narrow self.now.sorts.now → ClauseFits (G.meaning self.now.accepted.now.alg.now) (kept_headers self.now.accepted.now.outline.now) (record { parameters = self.now.sorts.now; variables = vs }) k → ClauseOf (G.meaning self.now.accepted.now.alg.now) (kept_headers self.now.accepted.now.outline.now) (record { parameters = self.now.sorts.now; variables = vs }) self.now.accepted.now.file.now k q clause.now → Writes (clause_bits (clause_by self.now.plan.now (term_by (G.meaning self.now.accepted.now.alg.now) self.now.plan.now self.now.sorts.now self.now.change.now) k)) writer.old writer.new result }
     {
         self.write_term(clause.guard, writer)?;
         writer.put(clause.count as u32 - 1, 3)?;
-        let occurrences = self.accepted.occurrences(clause).ok_or(Full)?;
+        self.accepted
+            .read_occurrences(clause, occurrences)
+            .ok_or(Full)?;
         self.write_occurrences(occurrences.as_slice(), writer)
     }
 
@@ -155,12 +164,17 @@ impl<'a, G: Algebra> Edit<'a, G> {
     }
 
     // The clauses that stay.
-    fn write_clauses(&self, clauses: &[ClauseAt], writer: &mut BitWriter) -> Result<(), Full>
+    fn write_clauses(
+        &self,
+        clauses: &[ClauseAt],
+        occurrences: &mut Row<OccurrenceAt, 8>,
+        writer: &mut BitWriter,
+    ) -> Result<(), Full>
         ensures { (ks : List ReadClause) (vs : List ℕ) → length self.now.accepted.now.file.now ≤ 65536 → Narrow self.now.sorts.now → Pairs (ClauseThere (G.meaning self.now.accepted.now.alg.now) (kept_headers self.now.accepted.now.outline.now) (record { parameters = self.now.sorts.now; variables = vs }) self.now.accepted.now.file.now) clauses.now ks → Writes (flat (map clause_bits (map (clause_by self.now.plan.now (term_by (G.meaning self.now.accepted.now.alg.now) self.now.plan.now self.now.sorts.now self.now.change.now)) (keep (clause_stays (G.meaning self.now.accepted.now.alg.now) self.now.plan.now) ks)))) writer.old writer.new result }
     {
         for clause in clauses {
             if self.stays(clause) {
-                self.write_clause(clause, writer)?;
+                self.write_clause(clause, occurrences, writer)?;
             }
         }
         Ok(())
@@ -174,7 +188,8 @@ impl<'a, G: Algebra> Edit<'a, G> {
         self.write_term(body.h, writer)?;
         let clauses = self.accepted.clauses(&body).ok_or(Full)?;
         writer.put(self.staying(clauses.as_slice()) as u32, 4)?;
-        self.write_clauses(clauses.as_slice(), writer)
+        let mut occurrences = no_occurrences();
+        self.write_clauses(clauses.as_slice(), &mut occurrences, writer)
     }
 }
 

@@ -1,14 +1,13 @@
 //! U: only the equations that the start leads to, over any number of occurrences, stay.
 ghost use Rattle.std.specs.Prelude.{◌≡◌, ℕ, ◌≤◌, List, length, true};
 ghost use Rattle.definitions.specs.Systems.{Clause as ReadClause, Equation as ReadEquation, System};
-ghost use Rattle.definitions.specs.Reading.{next};
-ghost use Rattle.definitions.specs.ReadSystem.{Scope, Header as Heading, read_body};
+ghost use Rattle.definitions.specs.Reading.{next, repeated};
+ghost use Rattle.definitions.specs.ReadSystem.{Scope, Header as Heading, read_clause, read_body};
 ghost use Rattle.definitions.specs.Lists.{some};
 ghost use Rattle.definitions.specs.Passes.{pass_u};
 ghost use Rattle.definitions.specs.Fits.{SystemFits};
 ghost use Rattle.firstcome.specs.Coming.{listed as came};
 ghost use Rattle.system.specs.Whole.{kept_headers, Outlined};
-ghost use Rattle.system.specs.Walks.{ClauseOf, Pairs};
 ghost use Rattle.passes.specs.Meanings.{u_rules};
 ghost use Rattle.passes.specs.Plans.{keeping, Planning};
 ghost use Rattle.passes.specs.Comes.{Brings, Called, Targets, Gathers, Keeping, Led, Room, is_number, reached};
@@ -16,10 +15,12 @@ ghost use Rattle.passes.specs.Comes.{Brings, Called, Targets, Gathers, Keeping, 
 use crate::Pass;
 use crate::plan::{EquationChange, Missing, Plan};
 use crate::rewrite::apply_planned;
+use crate::walked::no_occurrences;
 use algebra::Algebra;
 use faults::PassFault;
 use firstcome::FirstCome;
-use system::walk::{Accepted, ClauseAt, OccurrenceAt};
+use rows::Row;
+use system::walk::{Accepted, BodyAt, OccurrenceAt};
 
 /// The pass U.
 #[derive(Clone, Copy, PartialEq, Eq, Debug)]
@@ -47,16 +48,21 @@ fn targets_come(
     Ok(())
 }
 
-// The targets of the clauses' occurrences come.
+// The targets of the occurrences of the body's clauses come.
 fn called_come<G: Algebra>(
     accepted: &Accepted<G>,
-    clauses: &[ClauseAt],
+    body: &BodyAt,
+    occurrences: &mut Row<OccurrenceAt, 8>,
     list: &mut FirstCome<EquationNumber>,
 ) -> Result<(), Missing>
-    ensures { (c : Scope) (ks : List ReadClause) → length accepted.now.file.now ≤ 65536 → Pairs (λ x k. (u : ℕ) × ClauseOf (G.meaning accepted.now.alg.now) (kept_headers accepted.now.outline.now) c accepted.now.file.now k u x) clauses.now ks → Gathers (Called ks) list.old list.new result }
+    ensures { (c : Scope) (ks : List ReadClause) (q : ℕ) → length accepted.now.file.now ≤ 65536 → repeated (read_clause (G.meaning accepted.now.alg.now) (kept_headers accepted.now.outline.now) c) body.now.count accepted.now.file.now body.now.next ≡ next ks q → Gathers (Called ks) list.old list.new result }
 {
-    for clause in clauses {
-        let occurrences = accepted.occurrences(clause).ok_or(Missing)?;
+    let mut next = body.next;
+    for _ in 0..body.count {
+        let clause = accepted.open_clause(next).ok_or(Missing)?;
+        next = accepted
+            .read_occurrences(&clause, occurrences)
+            .ok_or(Missing)?;
         targets_come(occurrences.as_slice(), list)?;
     }
     Ok(())
@@ -66,13 +72,13 @@ fn called_come<G: Algebra>(
 fn body_leads<G: Algebra>(
     accepted: &Accepted<G>,
     at: usize,
+    occurrences: &mut Row<OccurrenceAt, 8>,
     list: &mut FirstCome<EquationNumber>,
 ) -> Result<(), Missing>
     ensures { (h : Heading) (e : ReadEquation) (q : ℕ) → length accepted.now.file.now ≤ 65536 → read_body (G.meaning accepted.now.alg.now) (kept_headers accepted.now.outline.now) h accepted.now.file.now at ≡ next e q → Gathers (Called e.clauses) list.old list.new result }
 {
     let body = accepted.open_body(at).ok_or(Missing)?;
-    let clauses = accepted.clauses(&body).ok_or(Missing)?;
-    called_come(accepted, clauses.as_slice(), list)
+    called_come(accepted, &body, occurrences, list)
 }
 
 // The targets of the occurrences of all equations that come come.
@@ -83,13 +89,14 @@ fn followed<G: Algebra>(
     ensures { (s : System) → length accepted.now.file.now ≤ 65536 → Outlined (G.meaning accepted.now.alg.now) accepted.now.file.now s accepted.now.outline.now → SystemFits (G.meaning accepted.now.alg.now) s → Room (reached s) list.old → Brings (reached s) (Led s (came list.new) (length (came list.new))) list.old list.new result }
 {
     let equations = accepted.outline.equations.as_slice();
+    let mut occurrences = no_occurrences();
     // Each equation comes once. The list grows while it is walked, so no iterator can hold it.
     for k in 0..31 {
         let Some(number) = list.get(k) else {
             return Ok(());
         };
         let equation = equations.get(number.index).ok_or(Missing)?;
-        body_leads(accepted, equation.body, list)?;
+        body_leads(accepted, equation.body, &mut occurrences, list)?;
     }
     Ok(())
 }

@@ -11,10 +11,11 @@ use Rattle.rows.specs.declared.row.Row.{Row}
 use Rattle.rows.specs.Listed.{listed}
 use Rattle.terms.specs.Shapes.{field_at, shape, what, behind, standing}
 use Rattle.terms.proofs.Laws.{followed, term_stands, field_is}
+use Rattle.system.proofs.ByPlace.{repeated_length}
 use Rattle.system.specs.declared.places.BodyAt.{BodyAt}
 use Rattle.system.specs.declared.places.ClauseAt.{ClauseAt}
 use Rattle.system.specs.declared.places.OccurrenceAt.{OccurrenceAt}
-use Rattle.system.specs.Walks.{term_end, counted, term_places, occurrence_places, occurrences_end, clause_end, BodyPlaces, ClausePlaces, OccurrencePlaces, BodyFound, ClauseFound, OccurrenceFound, EndFound, in_row, occurrence_next, clause_next, occurrence_told, clause_told, Found, Pairs, OccurrenceOf, ClauseOf, occurrences_of, OccurrencesPlaces, OccurrencesFound, ClausesPlaces, ClausesFound}
+use Rattle.system.specs.Walks.{term_end, counted, term_places, target_place, occurrence_places, occurrences_end, clause_end, BodyPlaces, ClausePlaces, OccurrencePlaces, BodyFound, ClauseFound, OccurrenceFound, EndFound, in_row, ended, occurrence_next, clause_next, occurrence_told, clause_told, Found, Pairs, OccurrenceOf, ClauseOf, occurrences_of, RowPlaces, RowFound, OccurrencesPlaces, OccurrencesFound, ClausesPlaces, ClausesFound}
 
 abbrev stood : {A : Type 0} → A → ℕ → Option (A × ℕ)
 stood x q = Some (x, q)
@@ -44,15 +45,6 @@ same_step x y p q e =
     let i : x ≡ y = cc in
     let j : p ≡ q = cc in
     ap (λ z. stood z p) i ∙ ap (λ z. stood y z) j
-
-repeated_length : {B : Type 0} (r : Reader B) (f : List ℕ) (n p : ℕ) (xs : List B) (q : ℕ) → repeated r n f p ≡ next xs q → length xs ≡ n
-repeated_length r f zero p xs q e = let i : xs ≡ [] = cc in ap length i
-repeated_length {B} r f (suc n) p xs q e =
-    let d = followed (r f p) (λ y t. follow (repeated r n f t) (λ ys u. next (y ∷ ys) u)) xs q e in
-    let b = followed (repeated r n f d.1.0) (λ ys u. next (d.0 ∷ ys) u) xs q d.1.1.1 in
-    let h : next (d.0 ∷ b.0) b.1.0 ≡ next xs q = b.1.1.1 in
-    let i : xs ≡ d.0 ∷ b.0 = cc in
-    ap length i ∙ ap suc (repeated_length r f n d.1.0 b.0 b.1.0 b.1.1.0)
 
 module _ (a : Alg) (f : List ℕ) (short : length f ≤ 65536) where
   -- a term that is read stands
@@ -300,6 +292,39 @@ module _ {X : Type 0} (s : ℕ → Option (X × ℕ)) where
   pub row_end : (xs : List X) (n i p : ℕ) → n ≡ i → prefixed xs (in_row s (n - i) p) ≡ Some (xs, p)
   row_end xs n i p h = let e : n - i ≡ 0 = omega arith in ap (λ z. prefixed xs (in_row s z p)) e ∙ ap (λ z. stood z p) (append-nil xs)
 
+  last : (x : X) (o : Option (List X × ℕ)) → ended (bind o (λ r. Some (x ∷ r.0, r.1))) ≡ ended o
+  last x None = refl
+  last x (Some r) = refl
+
+  -- the same of the place behind the last alone
+  pub end_begin : (n p : ℕ) → ended (in_row s n p) ≡ ended (in_row s (n - 0) p)
+  end_begin n p = let e : n ≡ n - 0 = omega arith in ap (λ k. ended (in_row s k p)) e
+
+  pub end_next : (n i p q : ℕ) → i < n → Some q ≡ ended (s p) → ended (in_row s (n - i) p) ≡ ended (in_row s (n - (i + 1)) q)
+  end_next n i p q h e = go (n - i) (n - (i + 1)) (omega arith)
+    where
+      found : (u : ℕ) (o : Option (X × ℕ)) → Some q ≡ ended o → ended (bind o (λ x. bind (in_row s u x.1) (λ r. Some (x.0 ∷ r.0, r.1)))) ≡ ended (in_row s u q)
+      found u None e = absurd cc
+      found u (Some x) e = let j : x.1 ≡ q = cc in last x.0 (in_row s u x.1) ∙ ap (λ z. ended (in_row s u z)) j
+
+      go : (u v : ℕ) → u ≡ v + 1 → ended (in_row s u p) ≡ ended (in_row s v q)
+      go zero v l = absurd (omega arith)
+      go (suc u) v l = let j : u ≡ v = omega arith in found u (s p) e ∙ ap (λ z. ended (in_row s z q)) j
+
+  pub end_none : (n i p : ℕ) → i < n → None ≡ ended (s p) → ended (in_row s (n - i) p) ≡ None
+  end_none n i p h e = go (n - i) (omega arith)
+    where
+      missing : (u : ℕ) (o : Option (X × ℕ)) → None ≡ ended o → ended (bind o (λ x. bind (in_row s u x.1) (λ r. Some (x.0 ∷ r.0, r.1)))) ≡ None
+      missing u None e = refl
+      missing u (Some x) e = absurd cc
+
+      go : (u : ℕ) → 0 < u → ended (in_row s u p) ≡ None
+      go zero l = absurd (omega arith)
+      go (suc u) l = missing u (s p) e
+
+  pub end_end : (n i p : ℕ) → n ≡ i → ended (in_row s (n - i) p) ≡ Some p
+  end_end n i p h = let e : n - i ≡ 0 = omega arith in ap (λ z. ended (in_row s z p)) e
+
   -- what is read one by one is found one by one
   pub row_found : {Y : Type 0} (r : Reader Y) (f : List ℕ) (P : X → Y → Type 0) → ((p : ℕ) (y : Y) (q : ℕ) → r f p ≡ next y q → (x : X) × ((s p ≡ Some (x, q)) × P x y)) →
       (n p : ℕ) (ys : List Y) (q : ℕ) → repeated r n f p ≡ next ys q → (xs : List X) × ((in_row s n p ≡ Some (xs, q)) × Pairs P xs ys)
@@ -350,20 +375,49 @@ module _ (a : Alg) (f : List ℕ) where
   counted_term w p u o e h = ap (λ (o : Option ℕ). bind {B = ℕ × ℕ} o (field_at w f)) (sym e) ∙ sym h
 
   module _ (hs : List Header) where
-    pub occurrence_no_target : (p : ℕ) → None ≡ field_at 5 f p → occurrence_places a hs f p ≡ None
-    occurrence_no_target p e = ap (λ (o : Option (ℕ × ℕ)). bind {B = ℕ × (List ℕ × ℕ)} o (λ i. bind (at hs i.0) (λ h. bind (term_places a (length h.sorts) f i.1) (λ x. Some (i.0, x))))) (sym e)
+    pub target_none : (p : ℕ) → None ≡ field_at 5 f p → target_place hs f p ≡ None
+    target_none p e = ap (λ (o : Option (ℕ × ℕ)). bind {B = ℕ × ℕ × ℕ} o (λ i. bind (at hs i.0) (λ h. Some (i.0, length h.sorts, i.1)))) (sym e)
 
-    pub occurrence_of : (p i u : ℕ) → Some (i, u) ≡ field_at 5 f p → occurrence_places a hs f p ≡ bind (at hs i) (λ h. bind (term_places a (length h.sorts) f u) (λ x. Some (i, x)))
-    occurrence_of p i u e = ap (λ (o : Option (ℕ × ℕ)). bind {B = ℕ × (List ℕ × ℕ)} o (λ i. bind (at hs i.0) (λ h. bind (term_places a (length h.sorts) f i.1) (λ x. Some (i.0, x))))) (sym e)
+    pub target_found : (p i u : ℕ) → Some (i, u) ≡ field_at 5 f p → (o : Option Header) → o ≡ at hs i → target_place hs f p ≡ bind o (λ h. Some (i, length h.sorts, u))
+    target_found p i u e o h =
+        ap (λ (o : Option (ℕ × ℕ)). bind {B = ℕ × ℕ × ℕ} o (λ i. bind (at hs i.0) (λ h. Some (i.0, length h.sorts, i.1)))) (sym e) ∙
+        ap (λ (o : Option Header). bind {B = ℕ × ℕ × ℕ} o (λ h. Some (i, length h.sorts, u))) (sym h)
 
-    pub occurrence_at : (p i u : ℕ) → Some (i, u) ≡ field_at 5 f p → (o : Option Header) → o ≡ at hs i → occurrence_places a hs f p ≡ bind o (λ h. bind (term_places a (length h.sorts) f u) (λ x. Some (i, x)))
-    occurrence_at p i u e o h = occurrence_of p i u e ∙ ap (λ (o : Option Header). bind {B = ℕ × (List ℕ × ℕ)} o (λ h. bind (term_places a (length h.sorts) f u) (λ x. Some (i, x)))) (sym h)
+    -- an occurrence is its target and its arguments
+    abbrev of_target : Option (ℕ × ℕ × ℕ) → Option (ℕ × (List ℕ × ℕ))
+    of_target o = bind o (λ t. bind (term_places a t.1 f t.2) (λ x. Some (t.0, x)))
 
-    pub occurrence_with : (p i u : ℕ) → Some (i, u) ≡ field_at 5 f p → (h : Header) → Some h ≡ at hs i → (n : ℕ) → n ≡ length h.sorts → (o : Option (List ℕ × ℕ)) → o ≡ term_places a n f u →
-        occurrence_places a hs f p ≡ bind o (λ x. Some (i, x))
-    occurrence_with p i u e h k n l o m =
-        occurrence_at p i u e (Some h) k ∙ ap (λ z. bind {A = List ℕ × ℕ} {B = ℕ × (List ℕ × ℕ)} (term_places a z f u) (λ x. Some (i, x))) (sym l) ∙
-        ap (λ (o : Option (List ℕ × ℕ)). bind {B = ℕ × (List ℕ × ℕ)} o (λ x. Some (i, x))) (sym m)
+    targeted : (p : ℕ) → occurrence_places a hs f p ≡ of_target (target_place hs f p)
+    targeted p = go (field_at 5 f p)
+      where
+        inner : (i : ℕ × ℕ) (o : Option Header) → bind {B = ℕ × (List ℕ × ℕ)} o (λ h. bind (term_places a (length h.sorts) f i.1) (λ x. Some (i.0, x))) ≡ of_target (bind {B = ℕ × ℕ × ℕ} o (λ h. Some (i.0, length h.sorts, i.1)))
+        inner i None = refl
+        inner i (Some h) = refl
+
+        go : (o : Option (ℕ × ℕ)) → bind {B = ℕ × (List ℕ × ℕ)} o (λ i. bind (at hs i.0) (λ h. bind (term_places a (length h.sorts) f i.1) (λ x. Some (i.0, x)))) ≡
+            of_target (bind {B = ℕ × ℕ × ℕ} o (λ i. bind (at hs i.0) (λ h. Some (i.0, length h.sorts, i.1))))
+        go None = refl
+        go (Some i) = inner i (at hs i.0)
+
+    pub occurrence_none : (p : ℕ) → None ≡ target_place hs f p → occurrence_places a hs f p ≡ None
+    occurrence_none p e = targeted p ∙ ap of_target (sym e)
+
+    pub occurrence_with : (p i n u : ℕ) → Some (i, n, u) ≡ target_place hs f p → (o : Option (List ℕ × ℕ)) → o ≡ term_places a n f u → occurrence_places a hs f p ≡ bind o (λ x. Some (i, x))
+    occurrence_with p i n u e o h = targeted p ∙ ap of_target (sym e) ∙ ap (λ (o : Option (List ℕ × ℕ)). bind {B = ℕ × (List ℕ × ℕ)} o (λ x. Some (i, x))) (sym h)
+
+    -- the place behind it alone
+    abbrev with_end : Option (ℕ × (List ℕ × ℕ)) → Option ℕ
+    with_end o = ended (bind {B = (ℕ × (List ℕ × ℕ)) × ℕ} o (λ x. Some (x, x.1.1)))
+
+    pub occurrence_no_end : (p : ℕ) → None ≡ target_place hs f p → ended (occurrence_next a hs f p) ≡ None
+    occurrence_no_end p e = ap with_end (occurrence_none p e)
+
+    pub occurrence_end : (p i n u : ℕ) → Some (i, n, u) ≡ target_place hs f p → (r : Option ℕ) → r ≡ ended (term_places a n f u) → ended (occurrence_next a hs f p) ≡ r
+    occurrence_end p i n u e r h = ap with_end (occurrence_with p i n u e (term_places a n f u) refl) ∙ go (term_places a n f u) ∙ sym h
+      where
+        go : (o : Option (List ℕ × ℕ)) → with_end (bind o (λ x. Some (i, x))) ≡ ended o
+        go None = refl
+        go (Some x) = refl
 
     pub clause_no_end : (p : ℕ) → counted a 3 f p ≡ None → clause_end a hs f p ≡ None
     clause_no_end p e = ap (λ (o : Option (ℕ × ℕ)). bind {B = ℕ} o (λ n. occurrences_end a hs (suc n.0) f n.1)) e
@@ -371,21 +425,14 @@ module _ (a : Alg) (f : List ℕ) where
     pub clause_end_at : (p n v m : ℕ) → counted a 3 f p ≡ Some (n, v) → m ≡ suc n → clause_end a hs f p ≡ occurrences_end a hs m f v
     clause_end_at p n v m e h = ap (λ (o : Option (ℕ × ℕ)). bind {B = ℕ} o (λ n. occurrences_end a hs (suc n.0) f n.1)) e ∙ ap (λ z. occurrences_end a hs z f v) (sym h)
 
-    pub clause_row : (n p : ℕ) → occurrences_end a hs n f p ≡ option_map {T = List (ℕ × (List ℕ × ℕ)) × ℕ} (λ x. x.1) (in_row (occurrence_next a hs f) n p)
+    pub clause_row : (n p : ℕ) → occurrences_end a hs n f p ≡ ended (in_row (occurrence_next a hs f) n p)
     clause_row zero p = refl
     clause_row (suc n) p = go (λ q. clause_row n q) (occurrence_places a hs f p)
       where
-        Told : Type 0
-        Told = List (ℕ × (List ℕ × ℕ)) × ℕ
-
-        last : (x : ℕ × (List ℕ × ℕ)) (o : Option Told) → option_map {T = Told} (λ x. x.1) o ≡ option_map {T = Told} (λ x. x.1) (bind {B = Told} o (λ r. Some (x ∷ r.0, r.1)))
-        last x None = refl
-        last x (Some r) = refl
-
-        go : ((q : ℕ) → occurrences_end a hs n f q ≡ option_map {T = Told} (λ x. x.1) (in_row (occurrence_next a hs f) n q)) → (o : Option (ℕ × (List ℕ × ℕ))) →
-            bind o (λ x. occurrences_end a hs n f x.1.1) ≡ option_map {T = Told} (λ x. x.1) (bind (bind {B = (ℕ × (List ℕ × ℕ)) × ℕ} o (λ x. Some (x, x.1.1))) (λ x. bind (in_row (occurrence_next a hs f) n x.1) (λ r. Some (x.0 ∷ r.0, r.1))))
+        go : ((q : ℕ) → occurrences_end a hs n f q ≡ ended (in_row (occurrence_next a hs f) n q)) → (o : Option (ℕ × (List ℕ × ℕ))) →
+            bind o (λ x. occurrences_end a hs n f x.1.1) ≡ ended (bind (bind {B = (ℕ × (List ℕ × ℕ)) × ℕ} o (λ x. Some (x, x.1.1))) (λ x. bind (in_row (occurrence_next a hs f) n x.1) (λ r. Some (x.0 ∷ r.0, r.1))))
         go ih None = refl
-        go ih (Some x) = ih x.1.1 ∙ last x (in_row (occurrence_next a hs f) n x.1.1)
+        go ih (Some x) = ih x.1.1 ∙ sym (last (occurrence_next a hs f) x (in_row (occurrence_next a hs f) n x.1.1))
 
 -- the places of terms as things in a row
 abbrev pub term_next : Alg → List ℕ → ℕ → Option (ℕ × ℕ)
@@ -400,29 +447,29 @@ terms_row a f (suc n) p = go (λ q. terms_row a f n q) (term_end a f p)
     go ih None = refl
     go ih (Some q) = ap (λ (o : Option (List ℕ × ℕ)). bind {B = List ℕ × ℕ} o (λ x. Some (p ∷ x.0, x.1))) (ih q)
 
+pub ended_term : (a : Alg) (f : List ℕ) (p : ℕ) → term_end a f p ≡ ended (term_next a f p)
+ended_term a f p = go (term_end a f p)
+  where
+    go : (o : Option ℕ) → o ≡ ended (bind {B = ℕ × ℕ} o (λ q. Some (p, q)))
+    go None = refl
+    go (Some q) = refl
+
 -- occurrences and clauses in a row, as the code tells them
 module _ (a : Alg) (hs : List Header) (f : List ℕ) where
-  behind_row : (n p : ℕ) (w : Option (Row OccurrenceAt 8 × ℕ)) → occurrences_of w ≡ in_row (occurrence_next a hs f) n p → occurrences_end a hs n f p ≡ option_map (λ w. w.1) w
-  behind_row n p w e = clause_row a f hs n p ∙ ap (option_map {T = List (ℕ × (List ℕ × ℕ)) × ℕ} (λ x. x.1)) (sym e) ∙ told w
-    where
-      told : (w : Option (Row OccurrenceAt 8 × ℕ)) → option_map {T = List (ℕ × (List ℕ × ℕ)) × ℕ} (λ x. x.1) (occurrences_of w) ≡ option_map (λ w. w.1) w
-      told None = refl
-      told (Some x) = refl
+  pub clause_end_of : (p : ℕ) (c : ClauseAt) (r : Option ℕ) → ClausePlaces a f p (Some c) → r ≡ occurrences_end a hs c.count f c.next → clause_end a hs f p ≡ r
+  clause_end_of p c r places e = clause_end_at a f hs p places.1.0 c.next c.count places.1.1.1 places.1.1.0 ∙ sym e
 
-  pub clause_end_of : (p : ℕ) (c : ClauseAt) (w : Option (Row OccurrenceAt 8 × ℕ)) → ClausePlaces a f p (Some c) → occurrences_of w ≡ in_row (occurrence_next a hs f) c.count c.next → clause_end a hs f p ≡ option_map (λ w. w.1) w
-  clause_end_of p c w places e = clause_end_at a f hs p places.1.0 c.next c.count places.1.1.1 places.1.1.0 ∙ behind_row c.count c.next w e
-
-  pub clause_next_of : (p : ℕ) (c : ClauseAt) (w : Option (Row OccurrenceAt 8 × ℕ)) → ClausePlaces a f p (Some c) → occurrences_of w ≡ in_row (occurrence_next a hs f) c.count c.next → clause_next a hs f p ≡ option_map (λ w. (clause_told c, w.1)) w
-  clause_next_of p c w places e =
+  pub clause_next_of : (p : ℕ) (c : ClauseAt) (r : Option ℕ) → ClausePlaces a f p (Some c) → r ≡ occurrences_end a hs c.count f c.next → clause_next a hs f p ≡ option_map (λ q. (clause_told c, q)) r
+  clause_next_of p c r places e =
       let n = places.1.0 in
       ap (λ (o : Option (ℕ × ℕ)). bind {B = (ℕ × (ℕ × ℕ)) × ℕ} o (λ n. bind (occurrences_end a hs (suc n.0) f n.1) (λ q. Some ((p, (suc n.0, n.1)), q)))) places.1.1.1 ∙
       ap (λ m. bind {B = (ℕ × (ℕ × ℕ)) × ℕ} (occurrences_end a hs m f c.next) (λ q. Some ((p, (m, c.next)), q))) (sym places.1.1.0) ∙
       ap (λ z. bind {B = (ℕ × (ℕ × ℕ)) × ℕ} (occurrences_end a hs c.count f c.next) (λ q. Some ((z, (c.count, c.next)), q))) (sym places.0) ∙
-      ap (λ (o : Option ℕ). bind {B = (ℕ × (ℕ × ℕ)) × ℕ} o (λ q. Some (clause_told c, q))) (behind_row c.count c.next w e) ∙ told w
+      ap (λ (o : Option ℕ). bind {B = (ℕ × (ℕ × ℕ)) × ℕ} o (λ q. Some (clause_told c, q))) (sym e) ∙ told r
     where
-      told : (w : Option (Row OccurrenceAt 8 × ℕ)) → bind {B = (ℕ × (ℕ × ℕ)) × ℕ} (option_map (λ w. w.1) w) (λ q. Some (clause_told c, q)) ≡ option_map (λ w. (clause_told c, w.1)) w
+      told : (r : Option ℕ) → bind {B = (ℕ × (ℕ × ℕ)) × ℕ} r (λ q. Some (clause_told c, q)) ≡ option_map (λ q. (clause_told c, q)) r
       told None = refl
-      told (Some x) = refl
+      told (Some q) = refl
 
   pub clause_no_next : (p : ℕ) → counted a 3 f p ≡ None → clause_next a hs f p ≡ None
   clause_no_next p e = ap (λ (o : Option (ℕ × ℕ)). bind {B = (ℕ × (ℕ × ℕ)) × ℕ} o (λ n. bind (occurrences_end a hs (suc n.0) f n.1) (λ q. Some ((p, (suc n.0, n.1)), q)))) e
@@ -431,8 +478,12 @@ module _ (a : Alg) (hs : List Header) (f : List ℕ) where
   occurrences_told c None e = ap (option_map (λ x. x.0)) e
   occurrences_told c (Some x) e = ap (option_map (λ x. x.0)) e
 
-  pub occurrences_found : (k : ClauseAt) (r : Option (Row OccurrenceAt 8)) → OccurrencesPlaces a hs f k r → OccurrencesFound a hs f k r
-  occurrences_found k r places c os q short e = found r (row_found (occurrence_next a hs f) (read_occurrence a hs c) f IsFound one k.count k.next os q e) places
+  -- the places of occurrences that are read one by one
+  read_places : (n p : ℕ) (c : Scope) (os : List Occurrence) (q : ℕ) → length f ≤ 65536 → repeated (read_occurrence a hs c) n f p ≡ next os q →
+      (ts : List (ℕ × (List ℕ × ℕ))) × ((in_row (occurrence_next a hs f) n p ≡ Some (ts, q)) × ((xs : List OccurrenceAt) → map occurrence_told xs ≡ ts → Pairs (λ x o. (u : ℕ) × OccurrenceOf a f o u x) xs os))
+  read_places n p c os q short e =
+      let d = row_found (occurrence_next a hs f) (read_occurrence a hs c) f IsFound one n p os q e in
+      (d.0, (d.1.0, λ xs i. told_pairs occurrence_told IsFound (λ x o. (u : ℕ) × OccurrenceOf a f o u x) (λ x o h. h x refl) xs os (subst (λ ts. Pairs IsFound ts os) (sym i) d.1.1)))
     where
       IsFound : ℕ × (List ℕ × ℕ) → Occurrence → Type 0
       IsFound t o = (x : OccurrenceAt) → occurrence_told x ≡ t → (u : ℕ) × OccurrenceOf a f o u x
@@ -447,13 +498,28 @@ module _ (a : Alg) (hs : List Header) (f : List ℕ) where
             ),
           )
 
-      found : (r : Option (Row OccurrenceAt 8)) → (ts : List (ℕ × (List ℕ × ℕ))) × ((in_row (occurrence_next a hs f) k.count k.next ≡ Some (ts, q)) × Pairs IsFound ts os) → OccurrencesPlaces a hs f k r →
+  pub row_filled : (k : ClauseAt) (xs : Row OccurrenceAt 8) (r : Option ℕ) → RowPlaces a hs f k xs r → RowFound a hs f k xs r
+  row_filled k xs r places c os q short e = go r places (read_places k.count k.next c os q short e)
+    where
+      go : (r : Option ℕ) → RowPlaces a hs f k xs r →
+          (ts : List (ℕ × (List ℕ × ℕ))) × ((in_row (occurrence_next a hs f) k.count k.next ≡ Some (ts, q)) × ((xs : List OccurrenceAt) → map occurrence_told xs ≡ ts → Pairs (λ x o. (u : ℕ) × OccurrenceOf a f o u x) xs os)) →
+          (r ≡ Some q) × Pairs (λ x o. (u : ℕ) × OccurrenceOf a f o u x) (listed xs) os
+      go None places d = let z : ◌≡◌ {A = Option (List (ℕ × (List ℕ × ℕ)) × ℕ)} None (Some (d.0, q)) = places ∙ d.1.0 in absurd cc
+      go (Some v) places d =
+          let z : ◌≡◌ {A = Option (List (ℕ × (List ℕ × ℕ)) × ℕ)} (Some (map occurrence_told (listed xs), v)) (Some (d.0, q)) = places ∙ d.1.0 in
+          let y : ◌≡◌ {A = List (ℕ × (List ℕ × ℕ)) × ℕ} (map occurrence_told (listed xs), v) (d.0, q) = cc in
+          (ap (λ (y : List (ℕ × (List ℕ × ℕ)) × ℕ). Some y.1) y, d.1.1 (listed xs) (ap (λ (y : List (ℕ × (List ℕ × ℕ)) × ℕ). y.0) y))
+
+  pub occurrences_found : (k : ClauseAt) (r : Option (Row OccurrenceAt 8)) → OccurrencesPlaces a hs f k r → OccurrencesFound a hs f k r
+  occurrences_found k r places c os q short e = go r places (read_places k.count k.next c os q short e)
+    where
+      go : (r : Option (Row OccurrenceAt 8)) → OccurrencesPlaces a hs f k r →
+          (ts : List (ℕ × (List ℕ × ℕ))) × ((in_row (occurrence_next a hs f) k.count k.next ≡ Some (ts, q)) × ((xs : List OccurrenceAt) → map occurrence_told xs ≡ ts → Pairs (λ x o. (u : ℕ) × OccurrenceOf a f o u x) xs os)) →
           Found r (λ xs. Pairs (λ x o. (u : ℕ) × OccurrenceOf a f o u x) (listed xs) os)
-      found None d places = let z : ◌≡◌ {A = Option (List (ℕ × (List ℕ × ℕ)))} None (Some d.0) = places ∙ ap (option_map (λ x. x.0)) d.1.0 in absurd cc
-      found (Some xs) d places =
+      go None places d = let z : ◌≡◌ {A = Option (List (ℕ × (List ℕ × ℕ)))} None (Some d.0) = places ∙ ap (option_map (λ x. x.0)) d.1.0 in absurd cc
+      go (Some xs) places d =
           let z : ◌≡◌ {A = Option (List (ℕ × (List ℕ × ℕ)))} (Some (map occurrence_told (listed xs))) (Some d.0) = places ∙ ap (option_map (λ x. x.0)) d.1.0 in
-          let i : map occurrence_told (listed xs) ≡ d.0 = cc in
-          told_pairs occurrence_told IsFound (λ x o. (u : ℕ) × OccurrenceOf a f o u x) (λ x o h. h x refl) (listed xs) os (subst (λ ts. Pairs IsFound ts os) (sym i) d.1.1)
+          d.1.1 (listed xs) cc
 
   pub no_clauses : (b : BodyAt) (r : Option (Row ClauseAt 15)) → r ≡ None → in_row (clause_next a hs f) b.count b.next ≡ None → ClausesPlaces a hs f b r
   no_clauses b r e n = ap (option_map (λ cs. map clause_told (listed cs))) e ∙ ap (option_map {T = List (ℕ × (ℕ × ℕ)) × ℕ} (λ x. x.0)) (sym n)

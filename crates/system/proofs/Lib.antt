@@ -4,6 +4,7 @@ pub mod Walks
 pub mod Lists
 pub mod Chains
 pub mod Behind
+pub mod ByPlace
 pub mod Records
 pub mod Outlines
 pub mod Found

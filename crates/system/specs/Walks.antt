@@ -26,6 +26,10 @@ abbrev pub term_places : Alg → ℕ → List ℕ → ℕ → Option (List ℕ �
 term_places a zero f p = Some ([], p)
 term_places a (suc n) f p = bind (term_end a f p) (λ q. bind (term_places a n f q) (λ x. Some (p ∷ x.0, x.1)))
 
+-- an occurrence's target, how many arguments it has, and the place of the first
+abbrev pub target_place : List Header → List ℕ → ℕ → Option (ℕ × ℕ × ℕ)
+target_place hs f p = bind (field_at 5 f p) (λ i. bind (at hs i.0) (λ h. Some (i.0, length h.sorts, i.1)))
+
 -- an occurrence's target, the places of its arguments, and the place behind it
 abbrev pub occurrence_places : Alg → List Header → List ℕ → ℕ → Option (ℕ × (List ℕ × ℕ))
 occurrence_places a hs f p = bind (field_at 5 f p) (λ i. bind (at hs i.0) (λ h. bind (term_places a (length h.sorts) f i.1) (λ x. Some (i.0, x))))
@@ -43,6 +47,11 @@ abbrev pub in_row : {X : Type 0} → (ℕ → Option (X × ℕ)) → ℕ → ℕ
 in_row s zero p = Some ([], p)
 in_row s (suc n) p = bind (s p) (λ x. bind (in_row s n x.1) (λ r. Some (x.0 ∷ r.0, r.1)))
 
+-- of what is found with the place behind it, that place
+abbrev pub ended : {X : Type 0} → Option (X × ℕ) → Option ℕ
+ended None = None
+ended (Some x) = Some x.1
+
 -- an occurrence with the place behind it
 abbrev pub occurrence_next : Alg → List Header → List ℕ → ℕ → Option ((ℕ × (List ℕ × ℕ)) × ℕ)
 occurrence_next a hs f p = bind (occurrence_places a hs f p) (λ x. Some (x, x.1.1))
@@ -50,6 +59,11 @@ occurrence_next a hs f p = bind (occurrence_places a hs f p) (λ x. Some (x, x.1
 -- a clause's place, its occurrence count and the place of the first, with the place behind the clause
 abbrev pub clause_next : Alg → List Header → List ℕ → ℕ → Option ((ℕ × (ℕ × ℕ)) × ℕ)
 clause_next a hs f p = bind (counted a 3 f p) (λ n. bind (occurrences_end a hs (suc n.0) f n.1) (λ q. Some ((p, (suc n.0, n.1)), q)))
+
+-- what was filled, with the place behind what was read into it, where one is told
+abbrev pub filled : {X : Type 0} → X → Option ℕ → Option (X × ℕ)
+filled x None = None
+filled x (Some q) = Some (x, q)
 
 -- the answers
 abbrev pub arguments_of : Option (Row ℕ 15 × ℕ) → Option (List ℕ × ℕ)
@@ -65,6 +79,10 @@ clause_told c = (c.guard, (c.count, c.next))
 abbrev pub occurrences_of : Option (Row OccurrenceAt 8 × ℕ) → Option (List (ℕ × (List ℕ × ℕ)) × ℕ)
 occurrences_of None = None
 occurrences_of (Some x) = Some (map occurrence_told (listed x.0), x.1)
+
+-- the occurrences of an open clause in a row, with the place behind them
+abbrev pub RowPlaces : Alg → List Header → List ℕ → ClauseAt → Row OccurrenceAt 8 → Option ℕ → Type 0
+RowPlaces a hs f c os r = occurrences_of (filled os r) ≡ in_row (occurrence_next a hs f) c.count c.next
 
 -- the occurrences of an open clause, and the clauses of an open body
 abbrev pub OccurrencesPlaces : Alg → List Header → List ℕ → ClauseAt → Option (Row OccurrenceAt 8) → Type 0
@@ -133,6 +151,10 @@ Pairs P (x ∷ xs) (y ∷ ys) = P x y × Pairs P xs ys
 abbrev pub OccurrencesFound : Alg → List Header → List ℕ → ClauseAt → Option (Row OccurrenceAt 8) → Type 0
 OccurrencesFound a hs f k r = (c : Scope) (os : List Occurrence) (q : ℕ) → length f ≤ 65536 → repeated (read_occurrence a hs c) k.count f k.next ≡ next os q →
     Found r (λ xs. Pairs (λ x o. (u : ℕ) × OccurrenceOf a f o u x) (listed xs) os)
+
+abbrev pub RowFound : Alg → List Header → List ℕ → ClauseAt → Row OccurrenceAt 8 → Option ℕ → Type 0
+RowFound a hs f k xs r = (c : Scope) (os : List Occurrence) (q : ℕ) → length f ≤ 65536 → repeated (read_occurrence a hs c) k.count f k.next ≡ next os q →
+    (r ≡ Some q) × Pairs (λ x o. (u : ℕ) × OccurrenceOf a f o u x) (listed xs) os
 
 abbrev pub ClausesFound : Alg → List Header → List ℕ → BodyAt → Option (Row ClauseAt 15) → Type 0
 ClausesFound a hs f b r = (c : Scope) (ks : List Clause) (q : ℕ) → length f ≤ 65536 → repeated (read_clause a hs c) b.count f b.next ≡ next ks q →

@@ -1,5 +1,6 @@
 //! Walking an accepted file: bodies, clauses and occurrences, with their terms as places.
 ghost use Rattle.std.specs.Prelude.{◌≡◌, ℕ, ◌^◌, ◌<◌, ◌≤◌, List, map, Option, length, IfSome};
+ghost use Rattle.std.specs.Option.{option_map};
 ghost use Rattle.definitions.specs.Lists.{bind};
 ghost use Rattle.definitions.specs.Systems.{fold};
 ghost use Rattle.definitions.specs.Reading.{next};
@@ -9,7 +10,7 @@ ghost use Rattle.terms.specs.Shapes.{standing};
 ghost use Rattle.terms.specs.Known.{Alike};
 ghost use Rattle.rows.specs.Listed.{listed};
 ghost use Rattle.system.specs.Whole.{kept_headers};
-ghost use Rattle.system.specs.Walks.{term_places, counted, clause_end, arguments_of, BodyPlaces, ClausePlaces, OccurrencePlaces, BodyFound, ClauseFound, OccurrenceFound, EndFound, in_row, occurrence_next, occurrences_of, OccurrencesPlaces, OccurrencesFound, ClausesPlaces, ClausesFound};
+ghost use Rattle.system.specs.Walks.{term_places, counted, target_place, occurrences_end, clause_end, ended, filled, arguments_of, BodyPlaces, ClausePlaces, OccurrencePlaces, BodyFound, ClauseFound, OccurrenceFound, EndFound, occurrence_next, OccurrencesPlaces, OccurrencesFound, RowPlaces, RowFound, ClausesPlaces, ClausesFound};
 
 use crate::DEPTH;
 use crate::outline::Outline;
@@ -19,6 +20,44 @@ use bits::BitReader;
 use rows::Row;
 use terms::value::{Environment, known_value};
 use terms::view::{View, end_of_term};
+
+// The number behind the term at the place, and the place behind the number.
+fn counted<G: Algebra>(alg: &G, bytes: &[u8], width: u32, at: usize) -> Option<(u32, usize)>
+    requires { width ≤ 32 }
+    ensures reads { result ≡ counted (G.meaning alg.now) width bytes.now at }
+    ensures small { IfSome result (λ x. x.0 < 2 ^ width) }
+{
+    let end = end_of_term(alg, View { bytes, at }, DEPTH)?;
+    let mut reader = BitReader { bytes, at: end };
+    let number = reader.next(width)?;
+    Some((number, reader.at))
+}
+
+/// The opening of the body at the place, which needs no outline; none where no term with a clause count behind it stands there.
+pub fn open_body<G: Algebra>(alg: &G, bytes: &[u8], at: usize) -> Option<BodyAt>
+    ensures places { BodyPlaces (G.meaning alg.now) bytes.now at result }
+    ensures found { BodyFound (G.meaning alg.now) bytes.now at result }
+{
+    let (count, next) = counted(alg, bytes, 4, at)?;
+    Some(BodyAt {
+        h: at,
+        count: count as u8,
+        next,
+    })
+}
+
+/// The opening of the clause at the place, which needs no outline; none where no term with an occurrence count behind it stands there.
+pub fn open_clause<G: Algebra>(alg: &G, bytes: &[u8], at: usize) -> Option<ClauseAt>
+    ensures places { ClausePlaces (G.meaning alg.now) bytes.now at result }
+    ensures found { ClauseFound (G.meaning alg.now) bytes.now at result }
+{
+    let (count, next) = counted(alg, bytes, 3, at)?;
+    Some(ClauseAt {
+        guard: at,
+        count: count as u8 + 1,
+        next,
+    })
+}
 
 /// An accepted file with its outline, over its algebra.
 #[derive_where(Clone, Copy)]
@@ -46,32 +85,12 @@ impl<'a, G: Algebra> Accepted<'a, G> {
         known_value(self.alg, env, self.view(at), DEPTH)
     }
 
-    // The number behind the term at the place, and the place behind the number.
-    fn counted(&self, width: u32, at: usize) -> Option<(u32, usize)>
-        requires { width ≤ 32 }
-        ensures reads { result ≡ counted (G.meaning self.now.alg.now) width self.now.file.now at }
-        ensures small { IfSome result (λ x. x.0 < 2 ^ width) }
-    {
-        let end = end_of_term(self.alg, self.view(at), DEPTH)?;
-        let mut reader = BitReader {
-            bytes: self.file,
-            at: end,
-        };
-        let number = reader.next(width)?;
-        Some((number, reader.at))
-    }
-
     /// The opening of the body at the place.
     pub fn open_body(&self, at: usize) -> Option<BodyAt>
         ensures places { BodyPlaces (G.meaning self.now.alg.now) self.now.file.now at result }
         ensures found { BodyFound (G.meaning self.now.alg.now) self.now.file.now at result }
     {
-        let (count, next) = self.counted(4, at)?;
-        Some(BodyAt {
-            h: at,
-            count: count as u8,
-            next,
-        })
+        open_body(self.alg, self.file, at)
     }
 
     /// The opening of the clause at the place.
@@ -79,32 +98,40 @@ impl<'a, G: Algebra> Accepted<'a, G> {
         ensures places { ClausePlaces (G.meaning self.now.alg.now) self.now.file.now at result }
         ensures found { ClauseFound (G.meaning self.now.alg.now) self.now.file.now at result }
     {
-        let (count, next) = self.counted(3, at)?;
-        Some(ClauseAt {
-            guard: at,
-            count: count as u8 + 1,
-            next,
-        })
+        open_clause(self.alg, self.file, at)
     }
 
-    // The places of so many arguments from the place on, and the place behind them.
-    fn arguments_at(&self, count: usize, at: usize) -> Option<(Row<usize, 15>, usize)>
+    // Fills the row with the places of so many arguments from the place on, and tells the place behind them.
+    fn read_arguments(&self, count: usize, at: usize, places: &mut Row<usize, 15>) -> Option<usize>
         requires { count ≤ 15 }
-        ensures { arguments_of result ≡ term_places (G.meaning self.now.alg.now) count self.now.file.now at }
+        ensures { arguments_of (filled places.new result) ≡
+            term_places (G.meaning self.now.alg.now) count self.now.file.now at }
     {
-        let mut places = Row::new(0);
+        places.clear();
         let mut next = at;
         for _ in 0..count {
             places.push(next).unwrap();
             next = end_of_term(self.alg, self.view(next), DEPTH)?;
         }
-        Some((places, next))
+        Some(next)
     }
 
-    /// The occurrence at the place.
-    pub fn open_occurrence(&self, at: usize) -> Option<OccurrenceAt>
-        ensures places { OccurrencePlaces (G.meaning self.now.alg.now) (kept_headers self.now.outline.now) self.now.file.now at result }
-        ensures found { OccurrenceFound (G.meaning self.now.alg.now) (kept_headers self.now.outline.now) self.now.file.now at result }
+    // The place behind so many terms from the place on.
+    fn end_of_terms(&self, terms: usize, at: usize) -> Option<usize>
+        ensures { result ≡
+            ended (term_places (G.meaning self.now.alg.now) terms self.now.file.now at) }
+    {
+        let mut next = at;
+        for _ in 0..terms {
+            next = end_of_term(self.alg, self.view(next), DEPTH)?;
+        }
+        Some(next)
+    }
+
+    // The target of the occurrence at the place, how many arguments it has, and the place of the first.
+    fn target_at(&self, at: usize) -> Option<(u8, usize, usize)>
+        ensures reads { result ≡ target_place (kept_headers self.now.outline.now) self.now.file.now at }
+        ensures small { IfSome result (λ x. (x.0 < 31) × (x.1 ≤ 15)) }
     {
         let mut reader = BitReader {
             bytes: self.file,
@@ -112,31 +139,67 @@ impl<'a, G: Algebra> Accepted<'a, G> {
         };
         let target = reader.next(5)?;
         let equation = self.outline.equations.as_slice().get(target as usize)?;
-        let sorts = equation.header.sorts.as_slice();
-        let (arguments, end) = self.arguments_at(sorts.len(), reader.at)?;
-        Some(OccurrenceAt {
-            target: target as u8,
-            arguments,
-            next: end,
-        })
+        Some((target as u8, equation.header.sorts.len(), reader.at))
     }
 
-    // The occurrences of the clause, and the place behind the last.
-    fn occurrences_at(&self, clause: &ClauseAt) -> Option<(Row<OccurrenceAt, 8>, usize)>
-        ensures { occurrences_of result ≡ in_row (occurrence_next (G.meaning self.now.alg.now) (kept_headers self.now.outline.now) self.now.file.now) clause.now.count clause.now.next }
+    /// The occurrence at the place.
+    pub fn open_occurrence(&self, at: usize) -> Option<OccurrenceAt>
+        ensures places { OccurrencePlaces (G.meaning self.now.alg.now) (kept_headers self.now.outline.now) self.now.file.now at result }
+        ensures found { OccurrenceFound (G.meaning self.now.alg.now) (kept_headers self.now.outline.now) self.now.file.now at result }
     {
-        let mut occurrences = Row::new(OccurrenceAt {
-            target: 0,
+        let (target, count, first) = self.target_at(at)?;
+        let mut occurrence = OccurrenceAt {
+            target,
             arguments: Row::new(0),
-            next: 0,
-        });
+            next: first,
+        };
+        let end = self.read_arguments(count, first, &mut occurrence.arguments)?;
+        occurrence.next = end;
+        Some(occurrence)
+    }
+
+    // The place behind the occurrence at the place.
+    fn end_of_occurrence(&self, at: usize) -> Option<usize>
+        ensures { result ≡ ended (occurrence_next (G.meaning self.now.alg.now)
+            (kept_headers self.now.outline.now) self.now.file.now at) }
+    {
+        let (_, count, first) = self.target_at(at)?;
+        self.end_of_terms(count, first)
+    }
+
+    // The place behind so many occurrences from the place on.
+    fn end_of_occurrences(&self, occurrences: u8, at: usize) -> Option<usize>
+        ensures { result ≡ occurrences_end (G.meaning self.now.alg.now)
+            (kept_headers self.now.outline.now) occurrences self.now.file.now at }
+    {
+        let mut next = at;
+        for _ in 0..occurrences {
+            next = self.end_of_occurrence(next)?;
+        }
+        Some(next)
+    }
+
+    /// Fills the row with the occurrences of the clause, in their order, whatever it held before, and tells the place behind them; none where one is missing, and the row may then hold anything.
+    ///
+    /// So who goes through many clauses needs one row for all of them, and comes from a clause to the next.
+    pub fn read_occurrences(
+        &self,
+        clause: &ClauseAt,
+        occurrences: &mut Row<OccurrenceAt, 8>,
+    ) -> Option<usize>
+        ensures places { RowPlaces (G.meaning self.now.alg.now) (kept_headers self.now.outline.now)
+            self.now.file.now clause.now occurrences.new result }
+        ensures found { RowFound (G.meaning self.now.alg.now) (kept_headers self.now.outline.now)
+            self.now.file.now clause.now occurrences.new result }
+    {
+        occurrences.clear();
         let mut next = clause.next;
         for _ in 0..clause.count {
             let occurrence = self.open_occurrence(next)?;
             occurrences.push(occurrence).unwrap();
             next = occurrence.next;
         }
-        Some((occurrences, next))
+        Some(next)
     }
 
     /// The occurrences of the clause, in their order.
@@ -144,7 +207,12 @@ impl<'a, G: Algebra> Accepted<'a, G> {
         ensures places { OccurrencesPlaces (G.meaning self.now.alg.now) (kept_headers self.now.outline.now) self.now.file.now clause.now result }
         ensures found { OccurrencesFound (G.meaning self.now.alg.now) (kept_headers self.now.outline.now) self.now.file.now clause.now result }
     {
-        let (occurrences, _) = self.occurrences_at(clause)?;
+        let mut occurrences = Row::new(OccurrenceAt {
+            target: 0,
+            arguments: Row::new(0),
+            next: 0,
+        });
+        self.read_occurrences(clause, &mut occurrences)?;
         Some(occurrences)
     }
 
@@ -166,8 +234,26 @@ impl<'a, G: Algebra> Accepted<'a, G> {
         ensures found { EndFound (G.meaning self.now.alg.now) (kept_headers self.now.outline.now) self.now.file.now at result }
     {
         let clause = self.open_clause(at)?;
-        let (_, end) = self.occurrences_at(&clause)?;
-        Some(end)
+        self.end_of_occurrences(clause.count, clause.next)
+    }
+
+    /// Fills the row with the clauses of the body, in their order, whatever it held before; none where one is missing, and the row may then hold anything.
+    ///
+    /// So who goes through many bodies needs one row for all of them.
+    pub fn read_clauses(&self, body: &BodyAt, clauses: &mut Row<ClauseAt, 15>) -> Option<()>
+        ensures places { ClausesPlaces (G.meaning self.now.alg.now) (kept_headers self.now.outline.now)
+            self.now.file.now body.now (option_map (λ _. clauses.new) result) }
+        ensures found { ClausesFound (G.meaning self.now.alg.now) (kept_headers self.now.outline.now)
+            self.now.file.now body.now (option_map (λ _. clauses.new) result) }
+    {
+        clauses.clear();
+        let mut next = body.next;
+        for _ in 0..body.count {
+            let clause = self.open_clause(next)?;
+            clauses.push(clause).unwrap();
+            next = self.end_of_occurrences(clause.count, clause.next)?;
+        }
+        Some(())
     }
 
     /// The clauses of the body, in their order.
@@ -180,13 +266,7 @@ impl<'a, G: Algebra> Accepted<'a, G> {
             count: 1,
             next: 0,
         });
-        let mut next = body.next;
-        for _ in 0..body.count {
-            let clause = self.open_clause(next)?;
-            clauses.push(clause).unwrap();
-            let (_, end) = self.occurrences_at(&clause)?;
-            next = end;
-        }
+        self.read_clauses(body, &mut clauses)?;
         Some(clauses)
     }
 }

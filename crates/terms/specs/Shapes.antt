@@ -41,6 +41,11 @@ opening a = do
   k ← field_at 3
   shape_kind a k
 
+-- how many parts there are, and the place of the first
+abbrev pub counted : Option ((Kind × ℕ) × ℕ) → Option (ℕ × ℕ)
+counted None = None
+counted (Some o) = Some (o.0.1, o.1)
+
 -- n terms in a row
 abbrev pub row : Shape Term → ℕ → Shape Terms
 row r zero = give none

@@ -1,7 +1,7 @@
 //! Terms in a file, read where they stand: nothing is copied out, and the parts of a term are further places.
 ghost use Rattle.std.specs.Prelude.{◌≡◌, ◌-◌, ◌≤◌, IfSome, Some, None, MatchOption};
 ghost use Rattle.definitions.specs.Lists.{bind};
-ghost use Rattle.terms.specs.Shapes.{field_at, opening, row, shape, what, behind, standing, ReadStands};
+ghost use Rattle.terms.specs.Shapes.{field_at, opening, counted, row, shape, what, behind, standing, ReadStands};
 ghost use Rattle.terms.specs.Shown.{reached, kind_and_count, opening_of, Apt, parts_of, term_of, PartsIn, In};
 
 use algebra::Algebra;
@@ -110,6 +110,42 @@ fn open_term<G: Algebra>(alg: &G, view: View) -> Option<Opening>
     })
 }
 
+// The place behind the next `width` bits, with no parts to follow: what they name is passed and not read.
+fn leaf(reader: &BitReader, width: usize) -> Option<(u8, usize)>
+    ensures { result ≡ bind (field_at width reader.now.bytes.now reader.now.at) (λ n. Some (0, n.1)) }
+{
+    if reader.bytes.len() > 65536 {
+        return None;
+    }
+    let total = 8 * reader.bytes.len();
+    if reader.at > total || width > total - reader.at {
+        return None;
+    }
+    Some((0, reader.at + width))
+}
+
+// How many parts the term at the view has, and the place of the first.
+fn count_parts<G: Algebra>(alg: &G, view: View) -> Option<(u8, usize)>
+    ensures { result ≡ counted (opening (G.meaning alg.now) view.entry.bytes.now view.entry.at) }
+{
+    // As in `read_kind`, without the kind: a walk to the place behind a term asks for no more.
+    let mut reader = BitReader {
+        bytes: view.bytes,
+        at: view.at,
+    };
+    match field(&mut reader, 3)? {
+        0 => leaf(&reader, 4),
+        1 => leaf(&reader, 2),
+        2 => leaf(&reader, 12),
+        3 => {
+            let op = field(&mut reader, 6)?;
+            Some((alg.arity(op)?, reader.at))
+        }
+        4 => Some((1, reader.at)),
+        _ => Some((2, reader.at)),
+    }
+}
+
 /// The place behind the term at the view, which has depth at most `depth`.
 pub fn end_of_term<G: Algebra>(alg: &G, view: View, depth: u8) -> Option<usize>
     ensures reads { result ≡ behind (shape (G.meaning alg.now) depth view.entry.bytes.now view.entry.at) }
@@ -118,9 +154,8 @@ pub fn end_of_term<G: Algebra>(alg: &G, view: View, depth: u8) -> Option<usize>
     if depth == 0 {
         return None;
     }
-    let opening = open_term(alg, view)?;
-    let mut at = opening.next;
-    for _ in 0..opening.parts {
+    let (parts, mut at) = count_parts(alg, view)?;
+    for _ in 0..parts {
         at = end_of_term(alg, View { at, ..view }, depth - 1)?;
     }
     Some(at)

@@ -11,20 +11,21 @@ fn number(text: &str) -> u32 {
 fn put_field(writer: &mut BitWriter, field: &str) {
     let (value, rest) = field.split_once(':').unwrap_or((field, "0"));
     let (width, times) = rest.split_once('*').unwrap_or((rest, "1"));
+    let (value, width) = (number(value), number(width));
     for _ in 0..number(times) {
-        let _ = writer.put(number(value), number(width));
+        let _ = writer.put(value, width);
     }
 }
 
-// Puts each word of the text from the place on, and zeros up to the byte; the place behind them.
+// Puts each word of the text from the place on, with zeros behind it up to the byte; the place behind them. Without a word the file stays as it is.
 fn put_words<F: Fn(&mut BitWriter, &str)>(file: &mut [u8], at: usize, text: &str, put: F) -> usize
     requires { F.IsAlwaysCallable put }
 {
     let mut writer = BitWriter { bytes: file, at };
     for word in text.split_whitespace() {
         put(&mut writer, word);
+        let _ = writer.close();
     }
-    let _ = writer.close();
     writer.at
 }
 

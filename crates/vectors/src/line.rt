@@ -18,11 +18,12 @@ impl<'a> Line<'a> {
         Line { verb, rest, label }
     }
 
-    /// The words that are numbers.
+    /// The words that are numbers, the first sixteen: more are no sizes and no arguments of any algebra.
     pub fn numbers(&self, heap: Global) -> Result<Vec<u32>, AllocError> {
         self.rest
             .split_whitespace()
             .filter_map(|word| word.parse::<u32>().ok())
+            .take(16)
             .collect(heap)
     }
 

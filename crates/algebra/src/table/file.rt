@@ -7,7 +7,7 @@ ghost use Rattle.rows.specs.Listed.{listed};
 ghost use Rattle.bits.specs.Told.{Reads};
 ghost use Rattle.definitions.specs.Lists.{each, product};
 ghost use Rattle.definitions.specs.Alg.{sized};
-ghost use Rattle.definitions.specs.Reading.{take_for, below, repeated, follow, complete, next as step};
+ghost use Rattle.definitions.specs.Reading.{take_for, below, repeated, follow, complete, ended, next as step};
 ghost use Rattle.definitions.specs.Tables.{read_size, read_sizes, read_op, read_table, table_reading};
 ghost use Rattle.algebra.specs.Kept.{values_of, kept_op, roomy};
 ghost use Rattle.algebra.specs.Tabled.{stored};
@@ -161,14 +161,16 @@ fn read_operations(
     Ok(operations)
 }
 
-fn read_whole(cursor: &mut Cursor) -> Result<Table, Stop>
-    requires short { length cursor.old.bytes.now ≤ 16384 }
-    ensures { Reads (λ t. stored t) (complete read_table) cursor.old cursor.new result }
+// The table of a file that is not too long.
+fn read_whole(file: &[u8]) -> Result<Table, TableFault>
+    requires short { length file.now ≤ 16384 }
+    ensures { judged result ≡ ended (complete read_table file.now 0) }
 {
-    let sizes = read_sizes(cursor)?;
+    let mut cursor = Cursor { bytes: file, at: 0 };
+    let sizes = read_sizes(&mut cursor)?;
     let number = cursor.field(6)?;
     let mut values = Row::new(0);
-    let operations = read_operations(cursor, sizes.as_slice(), number as u8, &mut values)?;
+    let operations = read_operations(&mut cursor, sizes.as_slice(), number as u8, &mut values)?;
     cursor.end()?;
     Ok(Table {
         sizes,
@@ -187,6 +189,6 @@ pub fn read_table(file: &[u8]) -> Result<Table, TableFault>
             place: 0,
         });
     }
-    let table = read_whole(&mut Cursor { bytes: file, at: 0 })?;
-    Ok(table)
+    // A table is large, so it is handed on as it comes, and not taken out of one answer into another.
+    read_whole(file)
 }

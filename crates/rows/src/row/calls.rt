@@ -1,4 +1,4 @@
-//! Making, reading and lengthening a row.
+//! Making, reading, lengthening and emptying a row.
 ghost use Rattle.std.specs.Prelude.{◌≡◌, ◌<◌, ◌≤◌, [], ◌∷◌, ◌++◌, length, IsOk, IsErr, ◌↔◌};
 ghost use Rattle.rows.specs.Listed.{listed};
 
@@ -29,6 +29,13 @@ impl<T: Copy, const N: usize> Row<T, N> {
         ensures within { result ≤ N }
     {
         self.as_slice().len()
+    }
+
+    /// No record any more, so that the row can be filled anew.
+    pub fn clear(&mut self)
+        ensures { listed self.new ≡ [] }
+    {
+        self.len = 0;
     }
 
     /// One record more, behind the others.

@@ -1,52 +1,54 @@
-use Rattle.std.proofs.Common.{◌≡◌, ℕ, drop, length, ap, arith, drop_of_length-le}
-use Rattle.definitions.specs.Systems.{Clause}
+use Rattle.std.proofs.Common.{◌+◌, subst, arith}
+use Rattle.definitions.specs.ReadSystem.{read_clause}
 use Rattle.definitions.specs.Constants.{clause_brings}
-use Rattle.system.specs.declared.places.ClauseAt.{ClauseAt}
 use Rattle.system.specs.Whole.{kept_headers}
-use Rattle.system.specs.Walks.{ClauseOf}
-use Rattle.passes.proofs.Along.{item}
-use Rattle.passes.proofs.Learning.{bringing_first, bringing_next, bringing_stop, bringing_end}
+use Rattle.system.proofs.ByPlace.{Ahead, ahead_begin, ahead_next, repeated_length}
+use Rattle.passes.proofs.Walking.{same_end, leaving_first, leaving_next, leaving_end}
 use Rattle.passes.proofs.constants.follow_clauses.Goals as goal
 
-pub loop-clause-init : goal.loop-clause-init
-loop-clause-init g c = (
+pub loop-init : goal.loop-init
+loop-init g c = (
   omega arith,
-  λ ks s cs short p v t.
+  λ ks s cs q short p v read.
       let a = g.G.Algebra.meaning c.args.accepted.now.alg.now in
-      let R = λ (x : ClauseAt) (k : Clause). (u : ℕ) × ClauseOf a (kept_headers c.args.accepted.now.outline.now) s c.args.accepted.now.file.now k u x in
-      bringing_first R (clause_brings a ks) c.args.clauses.now cs c.args.knowledge.now t,
+      let r = read_clause a (kept_headers c.args.accepted.now.outline.now) s in (
+        ahead_begin r c.args.accepted.now.file.now c.args.body.now.count c.args.body.now.next cs q read,
+        leaving_first (clause_brings a ks) cs c.args.knowledge.now,
+      ),
 )
 
-pub loop-clause-preserved : goal.loop-clause-preserved
-loop-clause-preserved g c = (
-  omega (arith, c.follow_clause.ensures.less, c.loop-clause.invariant.0),
-  λ ks s cs short p v t.
+pub loop-preserved : goal.loop-preserved
+loop-preserved g c = (
+  omega (arith, c.follow_clause.ensures.less, c.loop.invariant.0),
+  λ ks s cs q short p v read.
       let a = g.G.Algebra.meaning c.args.accepted.now.alg.now in
-      let R = λ (x : ClauseAt) (k : Clause). (u : ℕ) × ClauseOf a (kept_headers c.args.accepted.now.outline.now) s c.args.accepted.now.file.now k u x in
-      let x = c.clause-item.result in
-      let e = item c.args.clauses.now c.loop-clause.clause-index x (omega arith) c.clause-item.is in
-      bringing_next R (clause_brings a ks) x c.follow_clause.new.knowledge e (c.loop-clause.invariant.1 ks s cs short p v t) (λ k h. c.in_ok-follow_clause.ensures.brings ks s k h.0 short p v h.1),
+      let r = read_clause a (kept_headers c.args.accepted.now.outline.now) s in
+      let f = c.args.accepted.now.file.now in
+      let n = c.args.body.now.count in
+      let j = c.loop.counter in
+      let l = c.loop.invariant.1 ks s cs q short p v read in
+      let (k, (u, (is, (here, more)))) = ahead_next r f n cs q j c.loop.next (omega arith) l.0 in (
+        subst (Ahead r f n cs q (j + 1)) (same_end c.in_ok-next.next u (c.in_ok-next.ensures.behind s k u short here)) more,
+        leaving_next (clause_brings a ks) cs j k c.args.knowledge.now c.loop.knowledge c.follow_clause.new.knowledge is l.1 (c.in_ok-next.ensures.brings ks s k u short p v here),
+      ),
 )
 
-pub returns-in_err-follow_clause-clause-less : goal.returns-in_err-follow_clause-clause-less
-returns-in_err-follow_clause-clause-less g c = omega (arith, c.follow_clause.ensures.less, c.loop-clause.invariant.0)
+pub returns-in_err-next-clause-less : goal.returns-in_err-next-clause-less
+returns-in_err-next-clause-less g c = omega (arith, c.follow_clause.ensures.less, c.loop.invariant.0)
 
-pub returns-in_err-follow_clause-clause-brings : goal.returns-in_err-follow_clause-clause-brings
-returns-in_err-follow_clause-clause-brings g c = λ ks s cs short p v t.
-    let a = g.G.Algebra.meaning c.args.accepted.now.alg.now in
-    let R = λ (x : ClauseAt) (k : Clause). (u : ℕ) × ClauseOf a (kept_headers c.args.accepted.now.outline.now) s c.args.accepted.now.file.now k u x in
-    let x = c.clause-item.result in
-    let e = item c.args.clauses.now c.loop-clause.clause-index x (omega arith) c.clause-item.is in
-    absurd (bringing_stop R (clause_brings a ks) x e (c.loop-clause.invariant.1 ks s cs short p v t) (λ k h. c.in_err-follow_clause.ensures.brings ks s k h.0 short p v h.1))
+pub returns-in_err-next-clause-brings : goal.returns-in_err-next-clause-brings
+returns-in_err-next-clause-brings g c = λ ks s cs q short p v read.
+    let r = read_clause (g.G.Algebra.meaning c.args.accepted.now.alg.now) (kept_headers c.args.accepted.now.outline.now) s in
+    let l = c.loop.invariant.1 ks s cs q short p v read in
+    let (k, (u, (is, (here, more)))) = ahead_next r c.args.accepted.now.file.now c.args.body.now.count cs q c.loop.counter c.loop.next (omega arith) l.0 in
+    absurd (c.in_err-next.ensures.brings ks s k u short p v here)
 
 pub returns-clause-less : goal.returns-clause-less
-returns-clause-less g c = c.loop-clause.invariant.0
+returns-clause-less g c = c.loop.invariant.0
 
 pub returns-clause-brings : goal.returns-clause-brings
-returns-clause-brings g c = λ ks s cs short p v t.
+returns-clause-brings g c = λ ks s cs q short p v read.
     let a = g.G.Algebra.meaning c.args.accepted.now.alg.now in
-    let R = λ (x : ClauseAt) (k : Clause). (u : ℕ) × ClauseOf a (kept_headers c.args.accepted.now.outline.now) s c.args.accepted.now.file.now k u x in
-    let xs = c.args.clauses.now in
-    let i = c.loop-clause.clause-index in
-    let none : length (drop i xs) ≡ 0 = ap length (drop_of_length-le xs {i = i} (omega arith)) in
-    bringing_end R (clause_brings a ks) c.loop-clause.knowledge none (c.loop-clause.invariant.1 ks s cs short p v t)
+    let r = read_clause a (kept_headers c.args.accepted.now.outline.now) s in
+    let long = repeated_length r c.args.accepted.now.file.now c.args.body.now.count c.args.body.now.next cs q read in
+    leaving_end (clause_brings a ks) cs c.loop.counter c.args.knowledge.now c.loop.knowledge (omega arith) (c.loop.invariant.1 ks s cs q short p v read).1

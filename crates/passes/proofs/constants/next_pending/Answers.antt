@@ -1,16 +1,10 @@
-use Rattle.std.proofs.Common.{arith}
-use Rattle.passes.specs.Learned.{kept_at}
-use Rattle.passes.proofs.Learning.{not_fresh, none_next, none_left_fresh}
+use Rattle.std.proofs.Common.{subst}
+use Rattle.passes.specs.Learned.{PendingFrom}
+use Rattle.passes.proofs.Learning.{pending_all}
 use Rattle.passes.proofs.constants.next_pending.Goals as goal
 
-pub loop-number-init : goal.loop-number-init
-loop-number-init c = λ j l. absurd (omega arith)
+pub returns-in-Some-clause-pending : goal.returns-in-Some-clause-pending
+returns-in-Some-clause-pending c = subst (PendingFrom c.args.from c.args.knowledge.now) c.in-Some.is c.pending_from.ensures.pending
 
-pub returns-in-Fresh : goal.returns-in-Fresh
-returns-in-Fresh c = c.in-Fresh.is
-
-pub loop-number-preserved : goal.loop-number-preserved
-loop-number-preserved c = none_next c.args.knowledge.now c.loop-number.number c.loop-number.invariant (not_fresh (kept_at c.args.knowledge.now c.loop-number.number) c.in_default.not-Fresh)
-
-pub returns : goal.returns
-returns c = none_left_fresh c.args.knowledge.now c.loop-number.number (omega (arith, c.told-knowledge)) c.loop-number.invariant
+pub returns-clause-pending : goal.returns-clause-pending
+returns-clause-pending c = pending_all c.args.knowledge.now c.pending_from-2.result c.pending_from-2.ensures.pending

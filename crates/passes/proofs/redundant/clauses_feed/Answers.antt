@@ -1,73 +1,85 @@
-use Rattle.std.proofs.Common.{◌≡◌, ℕ, true, List, length, Option, sym, subst, arith}
-use Rattle.definitions.specs.Systems.{Occurrence, Clause}
-use Rattle.rows.specs.declared.row.Row.{Row}
+use Rattle.std.proofs.Common.{◌≡◌, ◌+◌, true, length, refl, subst, arith, sym, ◌∙◌}
+use Rattle.definitions.specs.ReadSystem.{read_clause}
+use Rattle.theorems.proofs.Listing.{none_some, some_same}
 use Rattle.rows.specs.Listed.{listed}
 use Rattle.firstcome.specs.Coming.{listed as came}
-use Rattle.system.specs.declared.places.OccurrenceAt.{OccurrenceAt}
 use Rattle.system.specs.Whole.{kept_headers}
-use Rattle.system.specs.Walks.{OccurrenceOf, ClauseOf, Found, Pairs}
 use Rattle.passes.specs.Comes.{Has, Pointing}
-use Rattle.passes.proofs.Coming.{item_at, pair_at, pairs_long, brought_as, front_first, front_next, front_end}
+use Rattle.passes.proofs.Coming.{brought_as, front_first, front_next, front_end}
 use Rattle.passes.proofs.ComingR.{pointing_up, clause_points, points_clause}
+use Rattle.system.proofs.ByPlace.{Ahead, ahead_begin, ahead_next, repeated_length}
+use Rattle.passes.proofs.Walking.{not_closed, walked}
 use Rattle.passes.proofs.redundant.clauses_feed.Goals as goal
 
-pub loop-clause-init : goal.loop-clause-init
-loop-clause-init g c = λ sc ks short pairs p room pass.
+pub loop-init : goal.loop-init
+loop-init g c = λ sc ks q short read.
+    let r = read_clause (g.G.Algebra.meaning c.args.accepted.now.alg.now) (kept_headers c.args.accepted.now.outline.now) sc in
     let i = c.args.numbered.now.number in
-    let n = length (listed c.args.numbered.now.equation.now.header.sorts) in
-    front_first p (λ j (k : Clause). Pointing i n k.occurrences (Has (came c.args.list.now))) ks c.args.list.now room
+    let n = length (listed c.args.numbered.now.equation.now.header.sorts) in (
+      ahead_begin r c.args.accepted.now.file.now c.args.body.now.count c.args.body.now.next ks q read,
+      λ p room pass. front_first p (λ j k. Pointing i n k.occurrences (Has (came c.args.list.now))) ks c.args.list.now room,
+    )
 
-pub returns-in_err-occurrences : goal.returns-in_err-occurrences
-returns-in_err-occurrences g c = λ sc ks short pairs p room pass.
+pub returns-in_err-clause : goal.returns-in_err-clause
+returns-in_err-clause g c = λ sc ks q short read p room pass.
     let a = g.G.Algebra.meaning c.args.accepted.now.alg.now in
     let f = c.args.accepted.now.file.now in
     let hs = kept_headers c.args.accepted.now.outline.now in
-    let i = c.args.numbered.now.number in
-    let n = length (listed c.args.numbered.now.equation.now.header.sorts) in
-    let j = c.loop-clause.clause-index in
-    let k = pair_at (λ x k. (u : ℕ) × ClauseOf a hs sc f k u x) c.args.clauses.now ks j c.clause-item.result pairs (item_at c.args.clauses.now j c.clause-item.result c.loop-clause-test.true c.clause-item.is) in
-    absurd (subst (λ (o : Option (Row OccurrenceAt 8)). Found o (λ xs. Pairs (λ x o. (u : ℕ) × OccurrenceOf a f o u x) (listed xs) k.0.occurrences)) c.in_err-occurrences.ensures.ok_part
-    (c.occurrences.ensures.found sc k.0.occurrences k.2.0 short k.2.1.occurrences))
+    let j = c.loop.counter in
+    let l = c.loop.invariant sc ks q short read in
+    let (k, (u, (is, (here, more)))) = ahead_next (read_clause a hs sc) f c.args.body.now.count ks q j c.loop.next (omega arith) l.0 in
+    absurd (not_closed a hs f short sc c.loop.next k u here c.open_clause.result c.open_clause.ensures.found c.in_err-clause.ensures.ok_part)
+
+pub returns-in_err-next : goal.returns-in_err-next
+returns-in_err-next g c = λ sc ks q short read p room pass.
+    let a = g.G.Algebra.meaning c.args.accepted.now.alg.now in
+    let f = c.args.accepted.now.file.now in
+    let hs = kept_headers c.args.accepted.now.outline.now in
+    let j = c.loop.counter in
+    let l = c.loop.invariant sc ks q short read in
+    let (k, (u, (is, (here, more)))) = ahead_next (read_clause a hs sc) f c.args.body.now.count ks q j c.loop.next (omega arith) l.0 in
+    let w = walked a hs f short sc c.loop.next k u here c.open_clause.result c.open_clause.ensures.found c.in_ok-clause.clause c.in_ok-clause.ensures.ok_part
+    c.read_occurrences.new.occurrences c.read_occurrences.result c.read_occurrences.ensures.found (listed c.read_occurrences.new.occurrences) refl in
+    none_some u (sym c.in_err-next.ensures.ok_part ∙ w.0)
 
 pub returns-in_err-occurrences_feed : goal.returns-in_err-occurrences_feed
-returns-in_err-occurrences_feed g c = λ sc ks short pairs p room pass.
+returns-in_err-occurrences_feed g c = λ sc ks q short read p room pass.
     let a = g.G.Algebra.meaning c.args.accepted.now.alg.now in
     let f = c.args.accepted.now.file.now in
     let hs = kept_headers c.args.accepted.now.outline.now in
     let i = c.args.numbered.now.number in
     let n = length (listed c.args.numbered.now.equation.now.header.sorts) in
-    let j = c.loop-clause.clause-index in
-    let k = pair_at (λ x k. (u : ℕ) × ClauseOf a hs sc f k u x) c.args.clauses.now ks j c.clause-item.result pairs (item_at c.args.clauses.now j c.clause-item.result c.loop-clause-test.true c.clause-item.is) in
-    let D = λ (x : OccurrenceAt) (o : Occurrence). (u : ℕ) × OccurrenceOf a f o u x in
-    let found = subst (λ (o : Option (Row OccurrenceAt 8)). Found o (λ xs. Pairs D (listed xs) k.0.occurrences)) c.in_ok-occurrences.ensures.ok_part
-    (c.occurrences.ensures.found sc k.0.occurrences k.2.0 short k.2.1.occurrences) in
-    let there = subst (λ (xs : List OccurrenceAt). Pairs D xs k.0.occurrences) (sym c.as_slice.ensures) found in
-    let l = c.loop-clause.invariant sc ks short pairs p room pass in
-    absurd (c.in_err-occurrences_feed.ensures k.0.occurrences there p l.room (λ x w. pass x (clause_points (λ y. p y ≡ true) i n ks j k.0 k.1 x w)))
+    let j = c.loop.counter in
+    let l = c.loop.invariant sc ks q short read in
+    let (k, (u, (is, (here, more)))) = ahead_next (read_clause a hs sc) f c.args.body.now.count ks q j c.loop.next (omega arith) l.0 in
+    let w = walked a hs f short sc c.loop.next k u here c.open_clause.result c.open_clause.ensures.found c.in_ok-clause.clause c.in_ok-clause.ensures.ok_part
+    c.read_occurrences.new.occurrences c.read_occurrences.result c.read_occurrences.ensures.found c.as_slice.result.now c.as_slice.ensures in
+    absurd (c.in_err-occurrences_feed.ensures k.occurrences w.1 p (l.1 p room pass).room (λ x h. pass x (clause_points (λ y. p y ≡ true) i n ks j k is x h)))
 
-pub loop-clause-preserved : goal.loop-clause-preserved
-loop-clause-preserved g c = λ sc ks short pairs p room pass.
+pub loop-preserved : goal.loop-preserved
+loop-preserved g c = λ sc ks q short read.
     let a = g.G.Algebra.meaning c.args.accepted.now.alg.now in
     let f = c.args.accepted.now.file.now in
     let hs = kept_headers c.args.accepted.now.outline.now in
     let i = c.args.numbered.now.number in
     let n = length (listed c.args.numbered.now.equation.now.header.sorts) in
-    let j = c.loop-clause.clause-index in
-    let k = pair_at (λ x k. (u : ℕ) × ClauseOf a hs sc f k u x) c.args.clauses.now ks j c.clause-item.result pairs (item_at c.args.clauses.now j c.clause-item.result c.loop-clause-test.true c.clause-item.is) in
-    let D = λ (x : OccurrenceAt) (o : Occurrence). (u : ℕ) × OccurrenceOf a f o u x in
-    let found = subst (λ (o : Option (Row OccurrenceAt 8)). Found o (λ xs. Pairs D (listed xs) k.0.occurrences)) c.in_ok-occurrences.ensures.ok_part
-    (c.occurrences.ensures.found sc k.0.occurrences k.2.0 short k.2.1.occurrences) in
-    let there = subst (λ (xs : List OccurrenceAt). Pairs D xs k.0.occurrences) (sym c.as_slice.ensures) found in
-    let l = c.loop-clause.invariant sc ks short pairs p room pass in
-    let b = c.in_ok-occurrences_feed.ensures k.0.occurrences there p l.room (λ x w. pass x (clause_points (λ y. p y ≡ true) i n ks j k.0 k.1 x w)) in
-    front_next p (λ j (k : Clause). Pointing i n k.occurrences (Has (came c.args.list.now))) ks j k.0 k.1 l (brought_as p (pointing_up (Has (came c.args.list.now)) (Has (came c.loop-clause.list)) i n k.0.occurrences (λ y h. (h.0, l.kept h.0 y h.1))) b)
+    let j = c.loop.counter in
+    let l = c.loop.invariant sc ks q short read in
+    let (k, (u, (is, (here, more)))) = ahead_next (read_clause a hs sc) f c.args.body.now.count ks q j c.loop.next (omega arith) l.0 in
+    let w = walked a hs f short sc c.loop.next k u here c.open_clause.result c.open_clause.ensures.found c.in_ok-clause.clause c.in_ok-clause.ensures.ok_part
+    c.read_occurrences.new.occurrences c.read_occurrences.result c.read_occurrences.ensures.found c.as_slice.result.now c.as_slice.ensures in (
+      subst (Ahead (read_clause a hs sc) f c.args.body.now.count ks q (j + 1)) (some_same u c.in_ok-next.next (sym w.0 ∙ c.in_ok-next.ensures.ok_part)) more,
+      λ p room pass.
+          let m = l.1 p room pass in
+          let b = c.in_ok-occurrences_feed.ensures k.occurrences w.1 p m.room (λ x h. pass x (clause_points (λ y. p y ≡ true) i n ks j k is x h)) in
+          front_next p (λ j k. Pointing i n k.occurrences (Has (came c.args.list.now))) ks j k is m
+          (brought_as p (pointing_up (Has (came c.args.list.now)) (Has (came c.loop.list)) i n k.occurrences (λ y h. (h.0, m.kept h.0 y h.1))) b),
+    )
 
 pub returns : goal.returns
-returns g c = λ sc ks short pairs p room pass.
-    let a = g.G.Algebra.meaning c.args.accepted.now.alg.now in
-    let f = c.args.accepted.now.file.now in
-    let hs = kept_headers c.args.accepted.now.outline.now in
+returns g c = λ sc ks q short read p room pass.
+    let r = read_clause (g.G.Algebra.meaning c.args.accepted.now.alg.now) (kept_headers c.args.accepted.now.outline.now) sc in
     let i = c.args.numbered.now.number in
     let n = length (listed c.args.numbered.now.equation.now.header.sorts) in
-    let long = pairs_long (λ x k. (u : ℕ) × ClauseOf a hs sc f k u x) c.args.clauses.now ks pairs in
-    front_end p (λ j (k : Clause). Pointing i n k.occurrences (Has (came c.args.list.now))) ks c.loop-clause.clause-index (omega arith) (points_clause (Has (came c.args.list.now)) i n ks) (c.loop-clause.invariant sc ks short pairs p room pass)
+    let long = repeated_length r c.args.accepted.now.file.now c.args.body.now.count c.args.body.now.next ks q read in
+    front_end p (λ j k. Pointing i n k.occurrences (Has (came c.args.list.now))) ks c.loop.counter (omega arith) (points_clause (Has (came c.args.list.now)) i n ks) ((c.loop.invariant sc ks q short read).1 p room pass)

@@ -8,4 +8,4 @@ decreases-end_of_term g l = l.depth
 abbrev pub invariant-loop : goal.invariant-loop
 invariant-loop g l =
     let r = shape (g.G.Algebra.meaning l.alg) (l.depth - 1) in
-    behind (row r l.end l.view.bytes.now l.initial.at) ≡ behind (row r (l.end - l.counter) l.view.bytes.now l.at)
+    behind (row r l.parts l.view.bytes.now l.initial.at) ≡ behind (row r (l.parts - l.counter) l.view.bytes.now l.at)

@@ -25,6 +25,6 @@ invariant_of-result c =
     let r = row_inv f (read_op sizes) (op_sound sizes) (op_sound_lem sizes f) m p ops q reads in
     let long : length ops ≡ m = r.1 in
     record {
-      sound = and_from (sizes_sound sizes) (leb (length ops) 63 && each (op_sound sizes) ops) (sizes_sound_lem c.args.cursor.now.bytes.now c.args.cursor.now.at sizes c.read_sizes.new.cursor.at c.in_ok-sizes.ensures.0) (and_from (leb (length ops) 63) (each (op_sound sizes) ops) (le-leb (length ops) 63 (omega arith)) r.0);
+      sound = and_from (sizes_sound sizes) (leb (length ops) 63 && each (op_sound sizes) ops) (sizes_sound_lem c.args.file.now 0 sizes c.read_sizes.new.cursor.at c.in_ok-sizes.ensures.0) (and_from (leb (length ops) 63) (each (op_sound sizes) ops) (le-leb (length ops) 63 (omega arith)) r.0);
       room = ap (λ (l : List ℕ). roomy l vs os) (sym c.as_slice.ensures) ∙ c.in_ok-operations.ensures.fit;
     }

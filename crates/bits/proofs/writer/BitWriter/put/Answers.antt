@@ -1,6 +1,5 @@
 use Rattle.std.proofs.Common.{◌+◌, sym, refl, ap, arith}
 use Rattle.bits.proofs.Puts.{length_bits}
-use Rattle.bits.proofs.Left.{left_first, left_next, left_stop, left_end}
 use Rattle.bits.proofs.writer.BitWriter.put.Goals.{then-self-total-via-then-self-total, then-self-total-via-else-self-total+then-width-total}
 use Rattle.bits.proofs.writer.BitWriter.put.Goals as goal
 

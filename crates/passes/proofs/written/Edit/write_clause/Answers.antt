@@ -1,4 +1,4 @@
-use Rattle.std.proofs.Common.{◌≡◌, ℕ, ◌-◌, List, ◌++◌, map, length, Option, sym, ap, ◌∙◌, subst, arith}
+use Rattle.std.proofs.Common.{◌≡◌, ℕ, ◌-◌, List, ◌++◌, map, length, sym, ap, ◌∙◌, subst, arith}
 use Rattle.std.proofs.lemmas.List.{length-map}
 use Rattle.definitions.specs.Lists.{flat}
 use Rattle.definitions.specs.Bits.{bits}
@@ -6,13 +6,13 @@ use Rattle.definitions.specs.Systems.{Occurrence}
 use Rattle.definitions.specs.ReadSystem.{Scope}
 use Rattle.definitions.specs.Written.{term_bits, occurrence_bits, clause_bits}
 use Rattle.definitions.specs.Fits.{OccurrenceFits}
+use Rattle.theorems.proofs.Listing.{none_some}
 use Rattle.bits.specs.Writes.{Wrote, NoRoom}
 use Rattle.bits.proofs.Left.{left_first, left_next}
-use Rattle.rows.specs.declared.row.Row.{Row}
 use Rattle.rows.specs.Listed.{listed}
 use Rattle.system.specs.declared.places.OccurrenceAt.{OccurrenceAt}
 use Rattle.system.specs.Whole.{kept_headers}
-use Rattle.system.specs.Walks.{OccurrenceOf, Found, Pairs}
+use Rattle.system.specs.Walks.{OccurrenceOf, Pairs}
 use Rattle.passes.specs.Planned.{term_by, occurrence_by, clause_by}
 use Rattle.passes.specs.Rewrites.{OccurrenceThere}
 use Rattle.passes.proofs.TermBits.{left_last}
@@ -39,12 +39,10 @@ returns-in_err-put g c = λ k vs q short n s f.
     let r = c.from_residual-in_err-put in
     left_none (bits 3 m) rest c.put.new.self r.result r.ensures.0 l1 (subst (λ (j : ℕ). NoRoom (bits 3 j) c.write_term.new.writer) count (c.in_err-put.ensures.writes (omega arith) (omega arith)))
 
-pub returns-in_err-occurrences : goal.returns-in_err-occurrences
-returns-in_err-occurrences g c = λ k vs q short n s f.
+pub returns-in_err-ok_or : goal.returns-in_err-ok_or
+returns-in_err-ok_or g c = λ k vs q short n s f.
     let sc : Scope = record { parameters = c.args.self.now.sorts.now; variables = vs } in
-    let a = g.G.Algebra.meaning c.args.self.now.accepted.now.alg.now in
-    let file = c.args.self.now.accepted.now.file.now in
-    absurd (subst (λ (o : Option (Row OccurrenceAt 8)). Found o (λ xs. Pairs (λ (x : OccurrenceAt) (o : Occurrence). (u : ℕ) × OccurrenceOf a file o u x) (listed xs) k.occurrences)) c.in_err-occurrences.ensures.ok_part (c.occurrences.ensures.found sc k.occurrences q short f.occurrences))
+    none_some q (sym c.in_err-ok_or.ensures.ok_part ∙ (c.read_occurrences.ensures.found sc k.occurrences q short f.occurrences).0)
 
 pub returns : goal.returns
 returns g c = λ k vs q short n s f.
@@ -63,8 +61,7 @@ returns g c = λ k vs q short n s f.
     let few = c.args.clause.now.few in
     let sc : Scope = record { parameters = c.args.self.now.sorts.now; variables = vs } in
     let l2 = left_next {rest = rest} (bits 3 m) c.put.new.self l1 (subst (λ (j : ℕ). Wrote (bits 3 j) c.write_term.new.writer c.put.new.self) count (c.in_ok-put.ensures.writes (omega arith) (omega arith))) in
-    let found = c.occurrences.ensures.found sc os q short f.occurrences in
-    let here = subst (λ (o : Option (Row OccurrenceAt 8)). Found o (λ xs. Pairs (λ (x : OccurrenceAt) (o : Occurrence). (u : ℕ) × OccurrenceOf a file o u x) (listed xs) os)) c.in_ok-occurrences.ensures.ok_part found in
-    let there = pairs_with (λ (x : OccurrenceAt) (o : Occurrence). (u : ℕ) × OccurrenceOf a file o u x) (OccurrenceFits a hs sc) (OccurrenceThere a hs sc file) (λ x o p h. record { end = p.0; found = p.1; fits = h }) (listed c.in_ok-occurrences.occurrences) os here s.fit in
+    let here = (c.read_occurrences.ensures.found sc os q short f.occurrences).1 in
+    let there = pairs_with (λ (x : OccurrenceAt) (o : Occurrence). (u : ℕ) × OccurrenceOf a file o u x) (OccurrenceFits a hs sc) (OccurrenceThere a hs sc file) (λ x o p h. record { end = p.0; found = p.1; fits = h }) (listed c.read_occurrences.new.occurrences) os here s.fit in
     let x = c.write_occurrences in
     left_last rest x.new.writer x.result l2 (x.ensures os vs n (subst (λ (xs : List OccurrenceAt). Pairs (OccurrenceThere a hs sc file) xs os) (sym c.as_slice.ensures) there))

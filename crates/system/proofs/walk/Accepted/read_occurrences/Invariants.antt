@@ -3,7 +3,7 @@ use Rattle.rows.specs.Listed.{listed}
 use Rattle.system.specs.Whole.{kept_headers}
 use Rattle.system.specs.Walks.{in_row, occurrence_next, occurrence_told}
 use Rattle.system.proofs.Found.{prefixed}
-use Rattle.system.proofs.walk.Accepted.occurrences_at.Given as goal
+use Rattle.system.proofs.walk.Accepted.read_occurrences.Given as goal
 
 abbrev pub invariant-loop : goal.invariant-loop
 invariant-loop g l =

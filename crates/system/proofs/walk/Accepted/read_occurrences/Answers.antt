@@ -3,9 +3,9 @@ use Rattle.std.proofs.lemmas.List.{map-append}
 use Rattle.definitions.specs.Lists.{bind}
 use Rattle.rows.specs.Listed.{listed}
 use Rattle.system.specs.Whole.{kept_headers}
-use Rattle.system.specs.Walks.{occurrence_next, occurrence_told, occurrences_of}
-use Rattle.system.proofs.Found.{row_begin, row_next, row_none, row_end}
-use Rattle.system.proofs.walk.Accepted.occurrences_at.Goals as goal
+use Rattle.system.specs.Walks.{occurrence_next, occurrence_told, filled, occurrences_of}
+use Rattle.system.proofs.Found.{row_begin, row_next, row_none, row_end, row_filled}
+use Rattle.system.proofs.walk.Accepted.read_occurrences.Goals as goal
 
 abbrev with_end : Option (ℕ × (List ℕ × ℕ)) → Option ((ℕ × (List ℕ × ℕ)) × ℕ)
 with_end o = bind o (λ x. Some (x, x.1.1))
@@ -13,17 +13,22 @@ with_end o = bind o (λ x. Some (x, x.1.1))
 pub loop-init : goal.loop-init
 loop-init g c =
     let s = occurrence_next (g.G.Algebra.meaning c.args.self.now.alg.now) (kept_headers c.args.self.now.outline.now) c.args.self.now.file.now in
-    rw c.new-occurrences.ensures (refl, row_begin s c.args.clause.now.count c.args.clause.now.next)
+    rw c.clear.ensures (refl, row_begin s c.args.clause.now.count c.args.clause.now.next)
 
 pub unwrap-requires : goal.unwrap-requires
 unwrap-requires g c = c.push.ensures.room.1 (omega (arith, c.loop.invariant.0))
 
 pub returns-in_err-occurrence : goal.returns-in_err-occurrence
 returns-in_err-occurrence g c =
-    let s = occurrence_next (g.G.Algebra.meaning c.args.self.now.alg.now) (kept_headers c.args.self.now.outline.now) c.args.self.now.file.now in
+    let a = g.G.Algebra.meaning c.args.self.now.alg.now in
+    let f = c.args.self.now.file.now in
+    let hs = kept_headers c.args.self.now.outline.now in
+    let k = c.args.clause.now in
     let l = c.loop in
-    ap occurrences_of c.from_residual.ensures ∙
-    sym (l.invariant.1 ∙ row_none s (map occurrence_told (listed l.occurrences)) c.args.clause.now.count l.counter l.next (omega arith) (ap with_end c.in_err-occurrence.ensures.places))
+    let xs = l.occurrences in
+    let p = ap (λ r. occurrences_of (filled xs r)) c.from_residual.ensures ∙
+    sym (l.invariant.1 ∙ row_none (occurrence_next a hs f) (map occurrence_told (listed xs)) k.count l.counter l.next (omega arith) (ap with_end c.in_err-occurrence.ensures.places)) in
+    record { places = p; found = row_filled a hs f k xs c.from_residual.result p }
 
 pub loop-preserved : goal.loop-preserved
 loop-preserved g c =
@@ -38,6 +43,11 @@ loop-preserved g c =
 
 pub returns : goal.returns
 returns g c =
-    let s = occurrence_next (g.G.Algebra.meaning c.args.self.now.alg.now) (kept_headers c.args.self.now.outline.now) c.args.self.now.file.now in
+    let a = g.G.Algebra.meaning c.args.self.now.alg.now in
+    let f = c.args.self.now.file.now in
+    let hs = kept_headers c.args.self.now.outline.now in
+    let k = c.args.clause.now in
     let l = c.loop in
-    sym (l.invariant.1 ∙ row_end s (map occurrence_told (listed l.occurrences)) c.args.clause.now.count l.counter l.next (omega arith))
+    let xs = l.occurrences in
+    let p = sym (l.invariant.1 ∙ row_end (occurrence_next a hs f) (map occurrence_told (listed xs)) k.count l.counter l.next (omega arith)) in
+    record { places = p; found = row_filled a hs f k xs (Some l.next) p }

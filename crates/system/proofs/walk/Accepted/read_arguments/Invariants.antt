@@ -2,7 +2,7 @@ use Rattle.std.proofs.Common.{◌≡◌, ◌-◌, length}
 use Rattle.rows.specs.Listed.{listed}
 use Rattle.system.specs.Walks.{in_row}
 use Rattle.system.proofs.Found.{prefixed, term_next}
-use Rattle.system.proofs.walk.Accepted.arguments_at.Given as goal
+use Rattle.system.proofs.walk.Accepted.read_arguments.Given as goal
 
 abbrev pub invariant-loop : goal.invariant-loop
 invariant-loop g l =
