@@ -219,8 +219,11 @@ fn pending_from(knowledge: &[Known; 31], from: usize) -> Option<Pending>
     ensures within { IfSome result (λ x. x.number < 31) }
     ensures pending { PendingFrom from knowledge.now result }
 {
-    for number in from..31 {
-        if let Known::Fresh(values) = &knowledge[number] {
+    for (number, known) in knowledge.iter().enumerate() {
+        if number < from {
+            continue;
+        }
+        if let Known::Fresh(values) = known {
             let values = *values;
             return Some(Pending { number, values });
         }

@@ -9,7 +9,7 @@ use Rattle.terms.specs.Shown.{reached}
 use Rattle.definitions.specs.Lists.{bind}
 use Rattle.definitions.specs.Alg.{Alg}
 use Rattle.definitions.specs.Systems.{Kind, value}
-use Rattle.terms.specs.Shapes.{field_at, came, shape_kind, opening, counted}
+use Rattle.terms.specs.Shapes.{field_at, came, shape_kind, opening, parts_counted}
 
 came_took : (o : Option ℕ) (p q : ℕ) → reached (λ n. n) o q ≡ came (took o p q)
 came_took None p q = refl
@@ -46,7 +46,7 @@ field_outside w f p h = go (leb (length f) 65536) refl
 
 -- the fields of a value term are as long as one of twelve bits
 abbrev TwoFields : List ℕ → ℕ → Type 0
-TwoFields f q = bind (field_at 12 f q) (λ n. Some (0, n.1)) ≡ counted (bind (field_at 4 f q) (λ s. bind (field_at 8 f s.1) (λ v. Some ((value s.0 v.0, 0), v.1))))
+TwoFields f q = bind (field_at 12 f q) (λ n. Some (0, n.1)) ≡ parts_counted (bind (field_at 4 f q) (λ s. bind (field_at 8 f s.1) (λ v. Some ((value s.0 v.0, 0), v.1))))
 
 two_fields : (f : List ℕ) (q : ℕ) → TwoFields f q
 two_fields f q = go (leb (length f) 65536) (leb (q + 12) (8 * length f)) (leb (q + 4) (8 * length f)) refl refl refl
@@ -70,16 +70,16 @@ two_fields f q = go (leb (length f) 65536) (leb (q + 12) (8 * length f)) (leb (q
 
 -- what is counted behind the kind
 module _ (a : Alg) (f : List ℕ) (p k q : ℕ) (kind : Some (k, q) ≡ field_at 3 f p) where
-  kind_then : counted (shape_kind a k f q) ≡ counted (opening a f p)
-  kind_then = ap (λ (o : Option (ℕ × ℕ)). counted (bind o (λ x. shape_kind a x.0 f x.1))) kind
+  kind_then : parts_counted (shape_kind a k f q) ≡ parts_counted (opening a f p)
+  kind_then = ap (λ (o : Option (ℕ × ℕ)). parts_counted (bind o (λ x. shape_kind a x.0 f x.1))) kind
 
-  pub value_counted : k ≡ 2 → bind (field_at 12 f q) (λ n. Some (0, n.1)) ≡ counted (opening a f p)
-  value_counted e = two_fields f q ∙ ap (λ n. counted (shape_kind a n f q)) (sym e) ∙ kind_then
+  pub value_counted : k ≡ 2 → bind (field_at 12 f q) (λ n. Some (0, n.1)) ≡ parts_counted (opening a f p)
+  value_counted e = two_fields f q ∙ ap (λ n. parts_counted (shape_kind a n f q)) (sym e) ∙ kind_then
 
-  pub two_counted : 5 ≤ k → Some (2, q) ≡ counted (opening a f p)
+  pub two_counted : 5 ≤ k → Some (2, q) ≡ parts_counted (opening a f p)
   two_counted h = from_five k h ∙ kind_then
     where
-      from_five : (n : ℕ) → 5 ≤ n → Some (2, q) ≡ counted (shape_kind a n f q)
+      from_five : (n : ℕ) → 5 ≤ n → Some (2, q) ≡ parts_counted (shape_kind a n f q)
       from_five zero h = absurd (omega arith)
       from_five (suc zero) h = absurd (omega arith)
       from_five (suc (suc zero)) h = absurd (omega arith)

@@ -3,7 +3,7 @@ use Rattle.std.proofs.Common.{◌≡◌, ℕ, zero, suc, ◌+◌, ◌-◌, List,
 use Rattle.definitions.specs.Lists.{bind}
 use Rattle.definitions.specs.Alg.{Alg}
 use Rattle.definitions.specs.Systems.{Kind, Term, Terms, node, more}
-use Rattle.terms.specs.Shapes.{Shape, opening, counted, row, shape, what, behind}
+use Rattle.terms.specs.Shapes.{Shape, opening, parts_counted, row, shape, what, behind}
 
 behind_more : (t : Term) (o : Option (Terms × ℕ)) → behind (bind o (λ xs. Some (more t xs.0, xs.1))) ≡ behind o
 behind_more t None = refl
@@ -47,10 +47,10 @@ module _ (a : Alg) (f : List ℕ) where
   shape_behind zero p ne = absurd (ne refl)
   shape_behind (suc d) p ne = rw sub-one (behind_shape d (opening a f p))
 
-  behind_counted : (d : ℕ) (o : Option ((Kind × ℕ) × ℕ)) → bind o (λ h. behind (row (shape a d) h.0.1 f h.1)) ≡ bind (counted o) (λ h. behind (row (shape a d) h.0 f h.1))
+  behind_counted : (d : ℕ) (o : Option ((Kind × ℕ) × ℕ)) → bind o (λ h. behind (row (shape a d) h.0.1 f h.1)) ≡ bind (parts_counted o) (λ h. behind (row (shape a d) h.0 f h.1))
   behind_counted d None = refl
   behind_counted d (Some h) = refl
 
   -- where parts are counted, what is behind them; else nothing stands
-  pub skip : (d p : ℕ) (o : Option (ℕ × ℕ)) → (d ≡ 0 → ⊥) → o ≡ counted (opening a f p) → behind (shape a d f p) ≡ bind o (λ h. behind (row (shape a (d - 1)) h.0 f h.1))
+  pub skip : (d p : ℕ) (o : Option (ℕ × ℕ)) → (d ≡ 0 → ⊥) → o ≡ parts_counted (opening a f p) → behind (shape a d f p) ≡ bind o (λ h. behind (row (shape a (d - 1)) h.0 f h.1))
   skip d p o ne e = shape_behind d p ne ∙ behind_counted (d - 1) (opening a f p) ∙ ap (λ o. bind o (λ h. behind (row (shape a (d - 1)) h.0 f h.1))) (sym e)

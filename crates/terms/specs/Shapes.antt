@@ -42,9 +42,9 @@ opening a = do
   shape_kind a k
 
 -- how many parts there are, and the place of the first
-abbrev pub counted : Option ((Kind × ℕ) × ℕ) → Option (ℕ × ℕ)
-counted None = None
-counted (Some o) = Some (o.0.1, o.1)
+abbrev pub parts_counted : Option ((Kind × ℕ) × ℕ) → Option (ℕ × ℕ)
+parts_counted None = None
+parts_counted (Some o) = Some (o.0.1, o.1)
 
 -- n terms in a row
 abbrev pub row : Shape Term → ℕ → Shape Terms

@@ -1,7 +1,7 @@
 //! Terms in a file, read where they stand: nothing is copied out, and the parts of a term are further places.
 ghost use Rattle.std.specs.Prelude.{◌≡◌, ◌-◌, ◌≤◌, IfSome, Some, None, MatchOption};
 ghost use Rattle.definitions.specs.Lists.{bind};
-ghost use Rattle.terms.specs.Shapes.{field_at, opening, counted, row, shape, what, behind, standing, ReadStands};
+ghost use Rattle.terms.specs.Shapes.{field_at, opening, parts_counted, row, shape, what, behind, standing, ReadStands};
 ghost use Rattle.terms.specs.Shown.{reached, kind_and_count, opening_of, Apt, parts_of, term_of, PartsIn, In};
 
 use algebra::Algebra;
@@ -126,7 +126,7 @@ fn leaf(reader: &BitReader, width: usize) -> Option<(u8, usize)>
 
 // How many parts the term at the view has, and the place of the first.
 fn count_parts<G: Algebra>(alg: &G, view: View) -> Option<(u8, usize)>
-    ensures { result ≡ counted (opening (G.meaning alg.now) view.entry.bytes.now view.entry.at) }
+    ensures { result ≡ parts_counted (opening (G.meaning alg.now) view.entry.bytes.now view.entry.at) }
 {
     // As in `read_kind`, without the kind: a walk to the place behind a term asks for no more.
     let mut reader = BitReader {
