@@ -23,7 +23,8 @@ use system::instance::Instance;
 use system::value::Environment;
 use system::walk::{Accepted, BodyAt, ClauseAt, OccurrenceAt};
 
-// The clauses and the occurrences that were opened last. Every walk fills the same rows anew, since to make a row takes longer than most walks.
+// The clauses and the occurrences that were opened last.
+// Every walk fills the same rows anew, since to make a row takes longer than most walks.
 #[derive(Drop)]
 pub(crate) struct Opened {
     clauses: Row<ClauseAt, 15>,

@@ -153,8 +153,18 @@ fn follow_clause<G: Algebra>(
     knowledge: &mut [Known; 31],
 ) -> Result<usize, Missing>
     ensures less { ranks knowledge.new ≤ ranks knowledge.old }
-    ensures brings { (ks : KnownValues) (c : Scope) (k : Clause) (q : ℕ) → length accepted.now.file.now ≤ 65536 → Alike env.now.parameters ks → Alike env.now.variables [] → read_clause (G.meaning accepted.now.alg.now) (kept_headers accepted.now.outline.now) c accepted.now.file.now at ≡ next k q → Follows (clause_brings (G.meaning accepted.now.alg.now) ks k) knowledge.old knowledge.new result }
-    ensures behind { (c : Scope) (k : Clause) (q : ℕ) → length accepted.now.file.now ≤ 65536 → read_clause (G.meaning accepted.now.alg.now) (kept_headers accepted.now.outline.now) c accepted.now.file.now at ≡ next k q → result ≡ Ok q }
+    ensures brings { let a = G.meaning accepted.now.alg.now in
+        let hs = kept_headers accepted.now.outline.now in
+        let f = accepted.now.file.now in
+        (ks : KnownValues) (c : Scope) (k : Clause) (q : ℕ) → length f ≤ 65536 →
+        Alike env.now.parameters ks → Alike env.now.variables [] →
+        read_clause a hs c f at ≡ next k q →
+        Follows (clause_brings a ks k) knowledge.old knowledge.new result }
+    ensures behind { let a = G.meaning accepted.now.alg.now in
+        let hs = kept_headers accepted.now.outline.now in
+        let f = accepted.now.file.now in
+        (c : Scope) (k : Clause) (q : ℕ) → length f ≤ 65536 →
+        read_clause a hs c f at ≡ next k q → result ≡ Ok q }
 {
     if accepted.known(env, at) == Some(0) {
         return accepted.end_of_clause(at).ok_or(Missing);
@@ -176,7 +186,13 @@ fn follow_clauses<G: Algebra>(
     knowledge: &mut [Known; 31],
 ) -> Result<(), Missing>
     ensures less { ranks knowledge.new ≤ ranks knowledge.old }
-    ensures brings { (ks : KnownValues) (c : Scope) (cs : List Clause) (q : ℕ) → length accepted.now.file.now ≤ 65536 → Alike env.now.parameters ks → Alike env.now.variables [] → repeated (read_clause (G.meaning accepted.now.alg.now) (kept_headers accepted.now.outline.now) c) body.now.count accepted.now.file.now body.now.next ≡ next cs q → Follows (flat (map (clause_brings (G.meaning accepted.now.alg.now) ks) cs)) knowledge.old knowledge.new result }
+    ensures brings { let a = G.meaning accepted.now.alg.now in
+        let hs = kept_headers accepted.now.outline.now in
+        let f = accepted.now.file.now in
+        (ks : KnownValues) (c : Scope) (cs : List Clause) (q : ℕ) → length f ≤ 65536 →
+        Alike env.now.parameters ks → Alike env.now.variables [] →
+        repeated (read_clause a hs c) body.now.count f body.now.next ≡ next cs q →
+        Follows (flat (map (clause_brings a ks) cs)) knowledge.old knowledge.new result }
 {
     let mut next = body.next;
     for _ in 0..body.count {

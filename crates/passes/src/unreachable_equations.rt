@@ -55,7 +55,12 @@ fn called_come<G: Algebra>(
     occurrences: &mut Row<OccurrenceAt, 8>,
     list: &mut FirstCome<EquationNumber>,
 ) -> Result<(), Missing>
-    ensures { (c : Scope) (ks : List ReadClause) (q : ℕ) → length accepted.now.file.now ≤ 65536 → repeated (read_clause (G.meaning accepted.now.alg.now) (kept_headers accepted.now.outline.now) c) body.now.count accepted.now.file.now body.now.next ≡ next ks q → Gathers (Called ks) list.old list.new result }
+    ensures { let a = G.meaning accepted.now.alg.now in
+        let hs = kept_headers accepted.now.outline.now in
+        let f = accepted.now.file.now in
+        (c : Scope) (ks : List ReadClause) (q : ℕ) → length f ≤ 65536 →
+        repeated (read_clause a hs c) body.now.count f body.now.next ≡ next ks q →
+        Gathers (Called ks) list.old list.new result }
 {
     let mut next = body.next;
     for _ in 0..body.count {

@@ -33,7 +33,9 @@ fn counted<G: Algebra>(alg: &G, bytes: &[u8], width: u32, at: usize) -> Option<(
     Some((number, reader.at))
 }
 
-/// The opening of the body at the place, which needs no outline; none where no term with a clause count behind it stands there.
+/// The opening of the body at the place, with no outline at hand.
+///
+/// None where no term with a clause count behind it stands there.
 pub fn open_body<G: Algebra>(alg: &G, bytes: &[u8], at: usize) -> Option<BodyAt>
     ensures places { BodyPlaces (G.meaning alg.now) bytes.now at result }
     ensures found { BodyFound (G.meaning alg.now) bytes.now at result }
@@ -46,7 +48,9 @@ pub fn open_body<G: Algebra>(alg: &G, bytes: &[u8], at: usize) -> Option<BodyAt>
     })
 }
 
-/// The opening of the clause at the place, which needs no outline; none where no term with an occurrence count behind it stands there.
+/// The opening of the clause at the place, with no outline at hand.
+///
+/// None where no term with an occurrence count behind it stands there.
 pub fn open_clause<G: Algebra>(alg: &G, bytes: &[u8], at: usize) -> Option<ClauseAt>
     ensures places { ClausePlaces (G.meaning alg.now) bytes.now at result }
     ensures found { ClauseFound (G.meaning alg.now) bytes.now at result }
@@ -144,8 +148,10 @@ impl<'a, G: Algebra> Accepted<'a, G> {
 
     /// The occurrence at the place.
     pub fn open_occurrence(&self, at: usize) -> Option<OccurrenceAt>
-        ensures places { OccurrencePlaces (G.meaning self.now.alg.now) (kept_headers self.now.outline.now) self.now.file.now at result }
-        ensures found { OccurrenceFound (G.meaning self.now.alg.now) (kept_headers self.now.outline.now) self.now.file.now at result }
+        ensures places { OccurrencePlaces (G.meaning self.now.alg.now) (kept_headers self.now.outline.now)
+            self.now.file.now at result }
+        ensures found { OccurrenceFound (G.meaning self.now.alg.now) (kept_headers self.now.outline.now)
+            self.now.file.now at result }
     {
         let (target, count, first) = self.target_at(at)?;
         let mut occurrence = OccurrenceAt {
@@ -179,7 +185,9 @@ impl<'a, G: Algebra> Accepted<'a, G> {
         Some(next)
     }
 
-    /// Fills the row with the occurrences of the clause, in their order, whatever it held before, and tells the place behind them; none where one is missing, and the row may then hold anything.
+    /// Fills the row with the occurrences of the clause, in their order, whatever it held before; the place behind them.
+    ///
+    /// None where one is missing: the row may then hold anything.
     ///
     /// So who goes through many clauses needs one row for all of them, and comes from a clause to the next.
     pub fn read_occurrences(
@@ -237,9 +245,9 @@ impl<'a, G: Algebra> Accepted<'a, G> {
         self.end_of_occurrences(clause.count, clause.next)
     }
 
-    /// Fills the row with the clauses of the body, in their order, whatever it held before; none where one is missing, and the row may then hold anything.
+    /// Fills the row with the clauses of the body, in their order, whatever it held before.
     ///
-    /// So who goes through many bodies needs one row for all of them.
+    /// None where one is missing: the row may then hold anything. So who goes through many bodies needs one row for all of them.
     pub fn read_clauses(&self, body: &BodyAt, clauses: &mut Row<ClauseAt, 15>) -> Option<()>
         ensures places { ClausesPlaces (G.meaning self.now.alg.now) (kept_headers self.now.outline.now)
             self.now.file.now body.now (option_map (λ _. clauses.new) result) }

@@ -17,7 +17,8 @@ fn put_field(writer: &mut BitWriter, field: &str) {
     }
 }
 
-// Puts each word of the text from the place on, with zeros behind it up to the byte; the place behind them. Without a word the file stays as it is.
+// Puts each word of the text from the place on, with zeros behind it up to the byte; the place behind them.
+// Without a word the file stays as it is.
 fn put_words<F: Fn(&mut BitWriter, &str)>(file: &mut [u8], at: usize, text: &str, put: F) -> usize
     requires { F.IsAlwaysCallable put }
 {
